@@ -6,7 +6,7 @@ _sioaudit_options() {
     case $1 in
         '') echo '-h --help -V --version' ;;
         audit) echo '--whole --workers --quiet -h --help -V --version' ;;
-        explain) echo '--pid --only --lines --json --html --fail-on --whole --workers --quiet -h --help -V --version' ;;
+        explain) echo '--pid --only --record --lines --json --html --fail-on --whole --workers --quiet -h --help -V --version' ;;
         simulate) echo '--nodes --clients --acts --seed --fault -h --help -V --version' ;;
         prove | verify | order | upgrade) echo '--quiet -h --help -V --version' ;;
         split) echo '--parts --bytes --into --workers --quiet -h --help -V --version' ;;
@@ -20,7 +20,7 @@ _sioaudit_values() {
         audit--workers | explain--workers | split--workers) echo '1 2 4 8 16 32 64' ;;
         explain--only) echo 'no delivery packets recording NOLOG CHAIN ORDER CLIENT NAMES FRAME ORPHAN CONTENT EXTRA DOUBLED SWAPPED LOST WINDOW TAIL' ;;
         explain--fail-on) echo 'delivery packets recording refused nothing NOLOG CHAIN ORDER CLIENT NAMES FRAME ORPHAN CONTENT EXTRA DOUBLED SWAPPED LOST WINDOW TAIL' ;;
-        explain--pid | split--parts) ;;
+        explain--pid | explain--record | split--parts) ;;
         split--bytes) echo '64M 256M 1G 4G' ;;
         simulate--fault) echo 'drop double hold alter garble lag unknown-offset no-reply other-sid no-open no-join no-break take-twice' ;;
         simulate--nodes | simulate--clients | simulate--acts | simulate--seed) ;;

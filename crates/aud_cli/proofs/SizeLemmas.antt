@@ -16,14 +16,16 @@ use Rattle.aud_cli.specs.Sizes.{cut_unit, ends_in, number_named, number_written}
 numerals : IsNumeralModel (λ ds. all_ascii_digits ds ≡ true) (digits_value 10)
 numerals = numerals_by_value _ tells_all_ascii_digits
 
--- digits of a number from 1 to `most` write it
-written : (most : ℕ) (ds : List ℕ) (n : ℕ) → IsNumeral 10 ds → n ≡ digits_value 10 ds → 1 ≤ n → n ≤ most → number_written most ds ≡ Some n
-written most ds n numeral value low high = grind (arith, nat_tests, numerals.from ds numeral.1)
+-- digits of a number from `least` to `most` write it
+written : (least most : ℕ) (ds : List ℕ) (n : ℕ) → IsNumeral 10 ds → n ≡ digits_value 10 ds → least ≤ n → n ≤ most → number_written least most ds ≡ Some n
+written least most ds n numeral value low high =
+    let some : nat_lt 0 (length ds) ≡ true = lt-ltb 0 _ numeral.0 in
+    grind (arith, nat_tests, some, numerals.from ds numeral.1)
 
 -- a text that writes no number of k bits writes none up to `most`
-unwritten : (k most : ℕ) (ds : List ℕ) → most < 2 ^ k → ¬ (IsNumeral 10 ds × (digits_value 10 ds < 2 ^ k)) → number_written most ds ≡ None
-unwritten k most [] fits none = refl
-unwritten k most (d ∷ ds) fits none = elim (cases_Bool (all_ascii_digits (d ∷ ds))) [
+unwritten : (k least most : ℕ) (ds : List ℕ) → most < 2 ^ k → ¬ (IsNumeral 10 ds × (digits_value 10 ds < 2 ^ k)) → number_written least most ds ≡ None
+unwritten k least most [] fits none = refl
+unwritten k least most (d ∷ ds) fits none = elim (cases_Bool (all_ascii_digits (d ∷ ds))) [
   | inl digits ↦ elim (cases_Bool (nat_le (digits_value 10 (d ∷ ds)) most)) [
     | inl small ↦
         let value : digits_value 10 (d ∷ ds) < 2 ^ k = grind (arith, nat_tests) in
@@ -33,17 +35,17 @@ unwritten k most (d ∷ ds) fits none = elim (cases_Bool (all_ascii_digits (d �
   | inr other ↦ rw other refl
 ]
 
--- the number that `parse` reads, where it is 1 to `most`, is that of the text
-pub number_named-some : {E : Type 0} (k most : ℕ) (bs : List ℕ) (r : Result ℕ E) (n : ℕ) → ParsesUnsigned k 10 bs r → Some n ≡ result_ok r → 1 ≤ n → n ≤ most → Some n ≡ number_named most bs
-number_named-some k most bs (Ok m) n read is low high =
+-- the number that `parse` reads, where it is `least` to `most`, is that of the text
+pub number_named-some : {E : Type 0} (k least most : ℕ) (bs : List ℕ) (r : Result ℕ E) (n : ℕ) → ParsesUnsigned k 10 bs r → Some n ≡ result_ok r → least ≤ n → n ≤ most → Some n ≡ number_named least most bs
+number_named-some k least most bs (Ok m) n read is low high =
     let same : n ≡ m = cc in
-    sym (written most (without_leading_plus bs) n read.0.0 (omega (arith, read.1)) low high)
-number_named-some k most bs (Err e) n read is low high = absurd (search rules)
+    sym (written least most (without_leading_plus bs) n read.0.0 (omega (arith, read.1)) low high)
+number_named-some k least most bs (Err e) n read is low high = absurd (search rules)
 
 -- and where it reads none, the text has none
-pub number_named-none : {E : Type 0} (k most : ℕ) (bs : List ℕ) (r : Result ℕ E) → most < 2 ^ k → ParsesUnsigned k 10 bs r → None ≡ result_ok r → number_named most bs ≡ None
-number_named-none k most bs (Ok m) fits read is = absurd (search rules)
-number_named-none k most bs (Err e) fits read is = unwritten k most (without_leading_plus bs) fits read
+pub number_named-none : {E : Type 0} (k least most : ℕ) (bs : List ℕ) (r : Result ℕ E) → most < 2 ^ k → ParsesUnsigned k 10 bs r → None ≡ result_ok r → number_named least most bs ≡ None
+number_named-none k least most bs (Ok m) fits read is = absurd (search rules)
+number_named-none k least most bs (Err e) fits read is = unwritten k least most (without_leading_plus bs) fits read
 
 -- ---- units
 

@@ -1,8 +1,8 @@
 -- The options of a mode, one after another.
-use Rattle.std.proofs.Common.{◌≡◌, ℕ, List, [], ◌∷◌, true, false, Option, Some, None, drop, map, option_map, option_and_then, refl}
+use Rattle.std.proofs.Common.{◌≡◌, ℕ, Bool, List, [], ◌∷◌, true, false, Option, Some, None, drop, map, option_map, option_and_then, refl}
 use Rattle.aud_cli.specs.declared.choice.Mode.{Mode}
 use Rattle.aud_cli.specs.declared.choice.ModeOptions.{ModeOptions}
-use Rattle.aud_cli.specs.Given.{Given, Words, file, given_of}
+use Rattle.aud_cli.specs.Given.{Given, Words, file, given_from, takes_number}
 use Rattle.aud_cli.specs.Arguments.{options_over, with_given}
 use Rattle.aud_cli.specs.Private.Steps.{is_end, next_given}
 use Rattle.aud_cli.proofs.Steps.{ended, given_first}
@@ -22,10 +22,13 @@ first : (mode : Mode) (before : ModeOptions) (given : Given) (rest : Option (Lis
 first mode before given None = nothing mode (with_given mode before given)
 first mode before given (Some all) = refl
 
--- the option or file that stands first counts before those after it
-pub taken : (mode : Mode) (before : ModeOptions) (words : Words) (given : Given) (count : ℕ) → is_end words ≡ false → next_given words ≡ Some (given, count)
-    → options_left mode (given_of words) before ≡ option_and_then (options_left mode (given_of (drop count words))) (with_given mode before given)
-taken mode before words given count more next = rw (given_first words given count more next) (first mode before given (given_of (drop count words)))
+-- what stands first counts before what is after it
+pub taken : (mode : Mode) (before : ModeOptions) (may_be : Bool) (words : Words) (given : Given) (count : ℕ)
+    → is_end words ≡ false → next_given may_be words ≡ Some (given, count)
+    → options_left mode (given_from may_be words) before
+    ≡ option_and_then (options_left mode (given_from (takes_number given) (drop count words))) (with_given mode before given)
+taken mode before may_be words given count more next =
+    rw (given_first may_be words given count more next) (first mode before given (given_from (takes_number given) (drop count words)))
 
 -- files change no options
 files_change_none : (mode : Mode) (options : ModeOptions) (words : Words) → options_over mode options (map (λ w. file w.now) words) ≡ Some options
@@ -33,5 +36,6 @@ files_change_none mode options [] = refl
 files_change_none mode options (word ∷ words) = files_change_none mode options words
 
 -- at the end there are the options so far
-pub over : (mode : Mode) (options : ModeOptions) (words : Words) → is_end words ≡ true → options_left mode (given_of words) options ≡ Some options
-over mode options words is = rw (ended words is) (files_change_none mode options (drop 1 words))
+pub over : (mode : Mode) (options : ModeOptions) (may_be : Bool) (words : Words) → is_end words ≡ true
+    → options_left mode (given_from may_be words) options ≡ Some options
+over mode options may_be words is = rw (ended may_be words is) (files_change_none mode options (drop 1 words))

@@ -9,13 +9,15 @@ use Rattle.aud_cli.specs.declared.output_form.OutputForm.{OutputForm}
 use Rattle.aud_cli.specs.declared.output_form.OutputForm.TheVariants.{Text, Json, Html}
 use Rattle.aud_cli.specs.declared.explain_options.Choices.{Choices}
 use Rattle.aud_cli.specs.declared.explain_options.ExplainOptions.{ExplainOptions}
+use Rattle.aud_cli.specs.declared.explain_options.NamedRecord.{NamedRecord}
 use Rattle.aud_cli.specs.FailOn.{every_class, fail_on_named}
-use Rattle.aud_cli.specs.Given.{Given, Words, given_of, values_of}
+use Rattle.aud_cli.specs.Given.{Given, Words, given_of, number_in, values_of}
 use Rattle.aud_cli.specs.Only.{only_named}
 
 -- none of the options that may stand once
 abbrev pub no_choices : Choices
-no_choices = record { only = None; form = None; fail_on = None; whole = false; quiet = false; workers = None; lines = false }
+no_choices =
+    record { only = None; form = None; fail_on = None; whole = false; quiet = false; workers = None; lines = false; pids = false; records = false }
 
 -- these options and --only with what it says, where that is known; it may stand once
 abbrev pub with_only : Choices → Option Only → Option Choices
@@ -45,10 +47,21 @@ with_quiet choices = if choices.quiet then None else Some (record choices { quie
 abbrev pub with_lines : Choices → Option Choices
 with_lines choices = if choices.lines then None else Some (record choices { lines = true })
 
--- these options and the next one, where there is one of its name; files and --pid may stand any number of times; what --lines names has its own place
+-- these options and --pid, which may stand any number of times
+abbrev pub with_pid : Choices → Option Choices
+with_pid choices = Some (record choices { pids = true })
+
+-- these options and --record, which may too
+abbrev pub with_record : Choices → Option Choices
+with_record choices = Some (record choices { records = true })
+
+-- these options and the next one, where there is one of its name; files may stand any number of times. Sessions, records
+-- and what --lines names have places of their own
 abbrev pub with_given : Choices → Given → Option Choices
 with_given choices given =
-    if bytes_eq given.name [] || bytes_eq given.name (codes "--pid") then Some choices
+    if bytes_eq given.name [] || bytes_eq given.name (codes "number") then Some choices
+    else (if bytes_eq given.name (codes "--pid") then with_pid choices
+    else (if bytes_eq given.name (codes "--record") then with_record choices
     else (if bytes_eq given.name (codes "--json") then with_form choices Json
     else (if bytes_eq given.name (codes "--html") then with_form choices Html
     else (if bytes_eq given.name (codes "--whole") then with_whole choices
@@ -57,7 +70,7 @@ with_given choices given =
     else (if bytes_eq given.name (codes "--fail-on") then with_fail_on choices (fail_on_named given.value)
     else (if bytes_eq given.name (codes "--workers") then with_workers choices (workers_named given.value)
     else (if bytes_eq given.name (codes "--lines") then with_lines choices
-    else None))))))))
+    else None))))))))))
 
 -- these options and all that follow, in any order
 abbrev pub choices_of : Choices → List Given → Option Choices
@@ -78,14 +91,38 @@ fails_tail (Some fail_on) = fail_on.faults.tail
 abbrev pub lacks_whole : Choices → Bool
 lacks_whole choices = not choices.whole && (shows_tail choices.only || fails_tail choices.fail_on)
 
--- these options, where that is not so
+-- the output is asked for as a page
+abbrev pub is_page : Option OutputForm → Bool
+is_page (Some Html) = true
+is_page form = false
+
+-- records are asked for by their numbers, and beside them what is of sessions alone
+abbrev pub is_mixed : Choices → Bool
+is_mixed choices = choices.records && (choices.pids || is_some choices.only || is_some choices.fail_on || choices.whole || is_page choices.form)
+
+-- these options, where neither is so
 abbrev pub understood : Choices → Option Choices
-understood choices = if lacks_whole choices then None else Some choices
+understood choices = if lacks_whole choices || is_mixed choices then None else Some choices
+
+-- the records whose numbers are named: each number is of the tap of the --record before it. None where one of --record
+-- has no number; `lacks` is whether the last has none yet
+abbrev pub records_after : List ℕ → Bool → List Given → Option (List NamedRecord)
+records_after tap lacks [] = if lacks then None else Some []
+records_after tap lacks (given ∷ all) =
+    if bytes_eq given.name (codes "number")
+    then option_and_then (λ n. option_map (λ more. record { tap = tap; number = n } ∷ more) (records_after tap false all)) (number_in given.value)
+    else (if lacks then None
+    else (if bytes_eq given.name (codes "--record") then records_after given.value true all
+    else records_after tap false all))
+
+-- the same of all that is given
+abbrev pub records_of : List Given → Option (List NamedRecord)
+records_of all = records_after [] false all
 
 -- what is asked for by these options: without --json and --html the output is text, without --fail-on any fault makes
 -- status 1, and without --workers there are 4
-abbrev pub options_of : List Given → Choices → ExplainOptions
-options_of all choices = record {
+abbrev pub options_of : List Given → Choices → List NamedRecord → ExplainOptions
+options_of all choices records = record {
   pids = values_of (codes "--pid") all;
   only = choices.only;
   form = unwrap_or choices.form Text;
@@ -94,15 +131,21 @@ options_of all choices = record {
   quiet = choices.quiet;
   workers = unwrap_or choices.workers 4;
   lines = slice_get (values_of (codes "--lines") all) 0;
+  records = records;
   files = values_of [] all;
 }
+
+-- what is asked for by all that is given
+abbrev pub asked_by : List Given → Option ExplainOptions
+asked_by all =
+    option_and_then (λ choices. option_map (options_of all choices) (records_of all)) (option_and_then understood (choices_of no_choices all))
 
 -- what the words ask for, where they are understood: the first is explain
 abbrev pub asked : Words → Option ExplainOptions
 asked [] = None
 asked (name ∷ words) =
     if bytes_eq name.now (codes "explain")
-    then option_and_then (λ all. option_map (options_of all) (option_and_then understood (choices_of no_choices all))) (given_of words)
+    then option_and_then asked_by (given_of words)
     else None
 
 -- a number of workers that these options give is 1 to 64

@@ -1,23 +1,23 @@
 -- How many parts are wanted, or how large.
-use Rattle.std.specs.Prelude.{◌≡◌, ℕ, ◌-◌, ◌*◌, ◌^◌, ◌≤◌, List, ◌∷◌, length, take, slice_index, Bool, ◌&&◌, ◌==◌, nat_le, nat_lt, Option, Some, None, option_map, option_and_then, if◌then◌else◌}
+use Rattle.std.specs.Prelude.{ℕ, ◌-◌, ◌*◌, ◌^◌, ◌≤◌, List, length, take, slice_index, Bool, ◌&&◌, ◌==◌, nat_le, nat_lt, Option, Some, None, option_map, option_and_then, if◌then◌else◌}
 use Rattle.std.specs.Str.{all_ascii_digits}
 use Rattle.std.specs.Str.Parse.{digits_value, without_leading_plus}
 use Rattle.aud_cli.specs.declared.split_options.PartsWanted.{PartsWanted}
 use Rattle.aud_cli.specs.declared.split_options.PartsWanted.TheVariants.{Number, Bytes}
 
--- the number that these digits write, where it is 1 to `most`
-abbrev pub number_written : ℕ → List ℕ → Option ℕ
-number_written most digits =
+-- the number that these digits write, where it is `least` to `most`
+abbrev pub number_written : ℕ → ℕ → List ℕ → Option ℕ
+number_written least most digits =
     let number = digits_value 10 digits in
-    if all_ascii_digits digits && nat_le 1 number && nat_le number most then Some number else None
+    if all_ascii_digits digits && nat_lt 0 (length digits) && nat_le least number && nat_le number most then Some number else None
 
--- the number of this text, 1 to `most`: decimal digits, and a plus may stand before them
-abbrev pub number_named : ℕ → List ℕ → Option ℕ
-number_named most text = number_written most (without_leading_plus text)
+-- the number of this text, `least` to `most`: decimal digits, and a plus may stand before them
+abbrev pub number_named : ℕ → ℕ → List ℕ → Option ℕ
+number_named least most text = number_written least most (without_leading_plus text)
 
 -- what --parts says with this text: 1 to 9999
 abbrev pub parts_named : List ℕ → Option PartsWanted
-parts_named text = option_map Number (number_named 9999 text)
+parts_named text = option_map Number (number_named 1 9999 text)
 
 -- the text ends in this byte
 abbrev pub ends_in : ℕ → List ℕ → Bool
@@ -33,7 +33,7 @@ fitting n = if nat_lt n (2 ^ 64) then Some n else None
 
 -- so many of this unit
 abbrev pub units : ℕ → List ℕ → Option ℕ
-units unit text = option_and_then (λ number. fitting (number * unit)) (number_named (2 ^ 64 - 1) text)
+units unit text = option_and_then (λ number. fitting (number * unit)) (number_named 1 (2 ^ 64 - 1) text)
 
 -- so many of this unit, if the text ends in its letter; else what another unit gives
 abbrev pub units_or : Option ℕ → ℕ → Option (List ℕ) → Option ℕ

@@ -5,7 +5,7 @@ ghost use Rattle.std.specs.Str.{bytes_eq};
 ghost use Rattle.aud_cli.specs.Arguments.{AreWithin, asked, files_named, given_in, has_quiet, is_audit, mode_named, mode_of, options_given, options_of, with_audit_option, with_given, with_quiet, with_whole, with_workers, workers_named};
 
 use crate::choice::{InputFiles, Mode, ModeOptions, Options};
-use crate::given::{Given, from, given_of, is_end, next_given, values_of};
+use crate::given::{Given, from, given_of, is_end, next_given, takes_number, values_of};
 use crate::parser::refusal;
 use clap::Error;
 use std::alloc::{AllocError, Global};
@@ -135,9 +135,11 @@ fn options_given(mode: Mode, words: &[&str]) -> Option<ModeOptions>
         whole: false,
         quiet: false,
     };
+    let mut may_be = false;
     let mut at = 0;
     'words: while !is_end(from(words, at)) {
-        let (given, count) = next_given(from(words, at))?;
+        let (given, count) = next_given(may_be, from(words, at))?;
+        may_be = takes_number(&given);
         options = with_given(mode, options, &given)?;
         at += count;
     }

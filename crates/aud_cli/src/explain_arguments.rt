@@ -1,17 +1,17 @@
 //! The arguments of `explain`.
 ghost use Rattle.std.specs.Prelude.{◌≡◌, ◌≢◌, ◌≤◌, Some, None, IfErr, IfOk, IfSome, option_map, slice_get};
 ghost use Rattle.clap.specs.Words.{kind_of};
-ghost use Rattle.aud_cli.specs.ExplainArguments.{AreWithin, asked, choices_of, fails_tail, lacks_whole, no_choices, options_of, shows_tail, with_fail_on, with_form, with_given, with_lines, with_only, with_quiet, with_whole, with_workers};
+ghost use Rattle.aud_cli.specs.ExplainArguments.{AreWithin, asked, asked_by, choices_of, fails_tail, is_mixed, is_page, lacks_whole, no_choices, options_of, records_of, shows_tail, with_fail_on, with_form, with_given, with_lines, with_only, with_pid, with_quiet, with_record, with_whole, with_workers};
 
 use crate::arguments::workers_named;
-use crate::explain_options::{Choices, ExplainOptions};
+use crate::explain_options::{Choices, ExplainOptions, NamedRecord};
 use crate::fail_on::{EVERY_CLASS, FailOn, fail_on_named};
-use crate::given::{Given, given_of, values_of};
-use crate::help::TAIL_ALONE;
+use crate::given::{Given, given_of, number_in, values_of};
+use crate::help::{RECORD_NUMBERS, TAIL_ALONE};
 use crate::only::{Only, only_named};
 use crate::output_form::OutputForm;
 use crate::parser::refusal_or;
-use aud_base::{Text, Texts};
+use aud_base::{Listed, Text, Texts};
 use clap::Error;
 use clap::error::ErrorKind;
 use std::alloc::{AllocError, Global};
@@ -110,15 +110,39 @@ fn with_lines(choices: Choices) -> Option<Choices>
     })
 }
 
-/// These options and the next one. Sessions and files, and what `--lines` names, have their own places.
+/// These options and `--pid`, which may stand any number of times.
+fn with_pid(choices: Choices) -> Option<Choices>
+    ensures { result ≡ with_pid choices }
+{
+    Some(Choices {
+        pids: true,
+        ..choices
+    })
+}
+
+/// These options and `--record`, which may too.
+fn with_record(choices: Choices) -> Option<Choices>
+    ensures { result ≡ with_record choices }
+{
+    Some(Choices {
+        records: true,
+        ..choices
+    })
+}
+
+/// These options and the next one. Sessions, records and files, and what `--lines` names, have their own places.
 fn with_given(choices: Choices, given: &Given<'_>) -> Option<Choices>
     requires { AreWithin choices }
     ensures choices { result ≡ with_given choices given.now }
     ensures within { IfSome result AreWithin }
 {
     let name = given.name();
-    if name == "" || name == "--pid" {
+    if name == "" || name == "number" {
         Some(choices)
+    } else if name == "--pid" {
+        with_pid(choices)
+    } else if name == "--record" {
+        with_record(choices)
     } else if name == "--json" {
         with_form(choices, OutputForm::Json)
     } else if name == "--html" {
@@ -153,6 +177,8 @@ fn choices_of(all: &[Given<'_>]) -> Option<Choices>
         quiet: false,
         workers: None,
         lines: false,
+        pids: false,
+        records: false,
     };
     'all: for given in all {
         choices = with_given(choices, given)?;
@@ -190,6 +216,55 @@ fn lacks_whole(choices: Choices) -> bool
     shows_tail(choices.only) || fails_tail(choices.fail_on)
 }
 
+/// Whether the output is asked for as a page.
+fn is_page(form: Option<OutputForm>) -> bool
+    ensures { result ≡ is_page form }
+{
+    matches!(form, Some(OutputForm::Html))
+}
+
+/// Whether records are asked for by their numbers, and beside them what is of sessions alone.
+fn is_mixed(choices: Choices) -> bool
+    ensures { result ≡ is_mixed choices }
+{
+    if !choices.records {
+        return false;
+    }
+    choices.pids
+        || choices.only.is_some()
+        || choices.fail_on.is_some()
+        || choices.whole
+        || is_page(choices.form)
+}
+
+/// The records whose numbers are named; none where a `--record` has no number.
+fn records_of(alloc: Global, all: &[Given<'_>]) -> Result<Option<Listed<NamedRecord>>, AllocError>
+    ensures { IfOk result (λ records. records ≡ records_of all.now) }
+{
+    let mut records = Vec::new(alloc);
+    let mut tap = "";
+    let mut lacks = false;
+    'all: for given in all {
+        if given.name() == "number" {
+            let Some(number) = number_in(given.value()) else {
+                return Ok(None);
+            };
+            let tap = Text::new(alloc, tap)?;
+            records.push(NamedRecord { tap, number })?;
+            lacks = false;
+        } else if lacks {
+            return Ok(None);
+        } else if given.name() == "--record" {
+            tap = given.value();
+            lacks = true;
+        }
+    }
+    if lacks {
+        return Ok(None);
+    }
+    Ok(Some(Listed::new(records)))
+}
+
 /// The first of these texts, if there is one.
 fn first_text(texts: &Texts) -> Result<Option<Text>, AllocError>
     ensures { IfOk result (λ text. text ≡ slice_get texts.now 0) }
@@ -200,14 +275,15 @@ fn first_text(texts: &Texts) -> Result<Option<Text>, AllocError>
     }
 }
 
-/// What is asked for by these options, and by the sessions and files of all that is given.
+/// What is asked for by these options, these records, and the sessions and files of all that is given.
 fn options_of(
     alloc: Global,
     choices: Choices,
+    records: Listed<NamedRecord>,
     all: &[Given<'_>],
 ) -> Result<ExplainOptions, AllocError>
     requires { AreWithin choices }
-    ensures options { IfOk result (λ o. o ≡ options_of all.now choices) }
+    ensures options { IfOk result (λ o. o ≡ options_of all.now choices records) }
     ensures within { IfOk result (λ o. (1 ≤ o.workers) × (o.workers ≤ 64)) }
 {
     let lines = first_text(&values_of(alloc, "--lines", all)?)?;
@@ -222,8 +298,27 @@ fn options_of(
         quiet: choices.quiet,
         workers: choices.workers.unwrap_or(4),
         lines,
+        records,
         files,
     })
+}
+
+/// What is asked for by all that is given, where it is understood.
+fn asked_by(alloc: Global, all: &[Given<'_>]) -> Result<Option<ExplainOptions>, AllocError>
+    ensures options { IfOk result (λ o. o ≡ asked_by all.now) }
+    ensures within { IfOk result (λ o. IfSome o (λ o. (1 ≤ o.workers) × (o.workers ≤ 64))) }
+{
+    let Some(choices) = choices_of(all) else {
+        return Ok(None);
+    };
+    if lacks_whole(choices) || is_mixed(choices) {
+        return Ok(None);
+    }
+    let Some(records) = records_of(alloc, all)? else {
+        return Ok(None);
+    };
+    let options = options_of(alloc, choices, records, all)?;
+    Ok(Some(options))
 }
 
 /// What the arguments ask for, where they are understood.
@@ -237,17 +332,19 @@ fn asked(alloc: Global, words: &[&str]) -> Result<Option<ExplainOptions>, AllocE
     if *name != "explain" {
         return Ok(None);
     }
-    let Some(all) = given_of(alloc, rest)? else {
-        return Ok(None);
-    };
-    let Some(choices) = choices_of(&all) else {
-        return Ok(None);
-    };
-    if lacks_whole(choices) {
-        return Ok(None);
+    match given_of(alloc, rest)? {
+        Some(all) => asked_by(alloc, &all),
+        None => Ok(None),
     }
-    let options = options_of(alloc, choices, &all)?;
-    Ok(Some(options))
+}
+
+/// Why words are refused that the parser lets pass.
+fn refused_words(words: &[&str]) -> &'static str {
+    if words.iter().any(|word| word.starts_with("--record")) {
+        RECORD_NUMBERS
+    } else {
+        TAIL_ALONE
+    }
 }
 
 /// What the arguments after the program's name ask for, of which the first is `explain`. The error has the text to
@@ -260,6 +357,6 @@ pub fn explain_asked<'a>(alloc: Global, words: &'a [&'a str]) -> Result<ExplainO
 {
     match asked(alloc, words)? {
         Some(options) => Ok(options),
-        None => Err(refusal_or(alloc, words, TAIL_ALONE)?),
+        None => Err(refusal_or(alloc, words, refused_words(words))?),
     }
 }

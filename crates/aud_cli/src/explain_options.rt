@@ -2,7 +2,16 @@
 use crate::fail_on::FailOn;
 use crate::only::Only;
 use crate::output_form::OutputForm;
-use aud_base::{Text, Texts};
+use aud_base::{Listed, Text, Texts};
+
+/// A record that is asked for by its number.
+#[derive(Drop)]
+pub struct NamedRecord {
+    /// The name of its tap.
+    pub tap: Text,
+    /// Its number, which counts from 0 after the tap's header.
+    pub number: u64,
+}
 
 /// What is to be explained, and how.
 #[derive(Drop)]
@@ -23,6 +32,9 @@ pub struct ExplainOptions {
     /// The name of the file that says from which lines of a recording those of the files come, which are a part of it;
     /// `-` for standard input. Lines are those of the files where there is none.
     pub lines: Option<Text>,
+    /// The records that are shown, in the order of the arguments. Where there is one, no session is explained, and of
+    /// what else is asked for only the form, the lines and the files count.
+    pub records: Listed<NamedRecord>,
     /// The names of the files that are read one after the other, `-` for standard input. Where there is none, standard
     /// input is read.
     pub files: Texts,
@@ -39,4 +51,8 @@ pub struct Choices {
     pub workers: Option<u8>,
     /// Whether `--lines` is one of them.
     pub lines: bool,
+    /// Whether `--pid` is, any number of times.
+    pub pids: bool,
+    /// Whether `--record` is, any number of times.
+    pub records: bool,
 }

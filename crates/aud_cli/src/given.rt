@@ -1,14 +1,15 @@
 //! The arguments as options and files.
 ghost use Rattle.std.specs.Prelude.{◌≡◌, ◌≤◌, ◌++◌, drop, length, map, IfOk, IfSome, OnOk, option_map};
 ghost use Rattle.std.specs.Str.{bytes_eq};
-ghost use Rattle.aud_cli.specs.Given.{alone, file, given_of, is_file, takes_value, values_of};
+ghost use Rattle.aud_cli.specs.Given.{alone, alone_or_number, file, given_of, is_file, number, number_in, takes_number, takes_value, values_of};
 ghost use Rattle.aud_cli.specs.Private.Steps.{is_end, next_given};
 
+use crate::sizes::number_named;
 use aud_base::{Text, Texts};
 use std::alloc::{AllocError, Global};
 use std::marker::Model;
 
-/// An option with its value, or a file, whose name is that of no option.
+/// An option with its value, the number of a record, or a file, whose name is that of no option.
 #[derive(Drop)]
 pub struct Given<'a> {
     name: &'a str,
@@ -24,14 +25,14 @@ impl<'a> Model for Given<'a> {
 }
 
 impl<'a> Given<'a> {
-    /// The option's name with its dashes, or nothing for a file.
+    /// The option's name with its dashes, `number` for a number, or nothing for a file.
     pub fn name(&self) -> &'a str
         ensures { result.now ≡ self.now.name }
     {
         self.name
     }
 
-    /// The option's value, or the file.
+    /// The option's value, the number, or the file.
     pub fn value(&self) -> &'a str
         ensures { result.now ≡ self.now.value }
     {
@@ -47,6 +48,7 @@ fn takes_value(word: &str) -> bool
         || word == "--only"
         || word == "--fail-on"
         || word == "--workers"
+        || word == "--record"
         || word == "--parts"
         || word == "--bytes"
         || word == "--into"
@@ -85,6 +87,40 @@ fn alone(word: &str) -> Given<'_>
     }
 }
 
+/// The number of a record that this word is, where it is one; they count from 0.
+pub fn number_in(word: &str) -> Option<u64>
+    ensures { result ≡ number_in word.now }
+{
+    number_named(0, u64::MAX, word)
+}
+
+fn number(word: &str) -> Given<'_>
+    ensures { result ≡ number word.now }
+{
+    Given {
+        name: "number",
+        value: word,
+    }
+}
+
+/// Whether the number of a record may stand after this.
+pub fn takes_number(given: &Given<'_>) -> bool
+    ensures { result ≡ takes_number given.now }
+{
+    given.name == "--record" || given.name == "number"
+}
+
+/// What a word gives by itself, where a number may stand there, or none may.
+fn alone_or_number(may_be: bool, word: &str) -> Given<'_>
+    ensures { result ≡ alone_or_number may_be word.now }
+{
+    if may_be && number_in(word).is_some() {
+        number(word)
+    } else {
+        alone(word)
+    }
+}
+
 /// Whether no option and no file stands here before `--` and the files after it.
 pub fn is_end(words: &[&str]) -> bool
     ensures { result ≡ is_end words.now }
@@ -95,14 +131,14 @@ pub fn is_end(words: &[&str]) -> bool
     }
 }
 
-/// The option or file that stands first, and how many arguments it has; none where an option has no value.
-pub fn next_given<'a>(words: &[&'a str]) -> Option<(Given<'a>, usize)>
-    ensures given { result ≡ next_given words.now }
+/// What stands first, which may be a number or may not, and how many arguments it has; none where an option has no value.
+pub fn next_given<'a>(may_be: bool, words: &[&'a str]) -> Option<(Given<'a>, usize)>
+    ensures given { result ≡ next_given may_be words.now }
     ensures words { IfSome result (λ r. (1 ≤ r.1) × (r.1 ≤ length words.now)) }
 {
     let (word, after) = words.split_first()?;
     if !takes_value(word) {
-        return Some((alone(word), 1));
+        return Some((alone_or_number(may_be, word), 1));
     }
     let value = after.first()?;
     Some((Given { name: word, value }, 2))
@@ -133,16 +169,18 @@ fn push_files<'a>(found: &mut Vec<Given<'a>>, words: &[&'a str]) -> Result<(), A
     Ok(())
 }
 
-/// The options and files that the arguments give; none where an option has no value.
+/// What the arguments give; none where an option has no value.
 pub fn given_of<'a>(alloc: Global, words: &[&'a str]) -> Result<Option<Vec<Given<'a>>>, AllocError>
     ensures { IfOk result (λ found. option_map (λ v. v.items) found ≡ given_of words.now) }
 {
     let mut found = Vec::new(alloc);
+    let mut may_be = false;
     let mut at = 0;
     'words: while !is_end(from(words, at)) {
-        let Some((given, count)) = next_given(from(words, at)) else {
+        let Some((given, count)) = next_given(may_be, from(words, at)) else {
             return Ok(None);
         };
+        may_be = takes_number(&given);
         found.push(given)?;
         at += count;
     }

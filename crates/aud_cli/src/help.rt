@@ -32,6 +32,10 @@ the session, also where it begins with a dash.
 
 Of a part, part-0001.jsonl, --lines part-0001.lines names the lines of the bundle that was split.
 
+With --record no session is explained: the records of a tap with these numbers are shown, each with its
+line. Numbers are those of `sioaudit order` and of certificates: they count from 0, without the tap's
+header. A file whose name is a number can be written ./7, or after --.
+
 The classes of faults:
   delivery   EXTRA, DOUBLED, SWAPPED, LOST, CONTENT, WINDOW: the client did not get what was due;
              with --whole also TAIL: it did not get the last of that
@@ -122,6 +126,10 @@ pub(crate) const BAD_SIZE: &str =
 /// Why `TAIL` is refused.
 pub(crate) const TAIL_ALONE: &str =
     "TAIL is named without --whole, which alone looks for it\n\nFor more information, try '--help'.";
+
+/// Why records are refused.
+pub(crate) const RECORD_NUMBERS: &str =
+    "--record has the name of a tap, and after it the numbers of records, as in --record a 3 4\n\nFor more information, try '--help'.";
 
 /// Why `-` is refused as a file of `split`.
 pub(crate) const STDIN_TWICE: &str =

@@ -26,6 +26,15 @@
 //! ```
 //!
 //! ```
+//! use aud_cli::explain_asked;
+//!
+//! let asked = explain_asked(alloc, &["explain", "--record", "a", "3", "4", "a.jsonl"])?;
+//! let [third, fourth] = asked.records.as_slice() else { unreachable!() };
+//! assert_eq!(rt; third.tap.as_str(), "a");
+//! assert_eq!(rt; fourth.number, 4);
+//! ```
+//!
+//! ```
 //! use aud_cli::{PartsWanted, split_asked};
 //!
 //! let asked = split_asked(alloc, &["split", "--bytes", "64M", "--into", "parts", "a.jsonl"])?;
@@ -54,7 +63,7 @@ mod split_options;
 pub use arguments::{files, options, workers_named};
 pub use choice::{InputFiles, Mode, Options};
 pub use explain_arguments::explain_asked;
-pub use explain_options::ExplainOptions;
+pub use explain_options::{ExplainOptions, NamedRecord};
 pub use fail_on::FailOn;
 pub use faults::Faults;
 pub use merge_arguments::merge_asked;

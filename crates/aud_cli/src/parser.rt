@@ -23,6 +23,8 @@ enum Place {
     Named,
     /// The same, where commas stand between several values.
     Listed,
+    /// After its name, so many values at least, one word each.
+    Several(usize),
     /// By itself.
     Word,
     /// By themselves, so many at least.
@@ -110,7 +112,7 @@ static AUDIT: [Argument; 4] = [
     QUIET,
 ];
 
-static EXPLAIN: [Argument; 10] = [
+static EXPLAIN: [Argument; 11] = [
     Argument {
         name: "pid",
         help: "Show this session; may stand several times",
@@ -124,6 +126,15 @@ static EXPLAIN: [Argument; 10] = [
         help: "Show only sessions answered no, or those of a class or fault",
         parser: ValueParser::Names(&SHOWN),
         value: &["WHICH"],
+        ..TEXT
+    },
+    Argument {
+        name: "record",
+        help: "Show the records of a tap with these numbers; may stand several times",
+        place: Place::Several(2),
+        action: ArgAction::Append,
+        value: &["TAP", "NUMBER"],
+        conflicts: &["pid", "only", "fail-on", "html", "whole"],
         ..TEXT
     },
     Argument {
@@ -320,6 +331,7 @@ fn arg_of<'a>(alloc: Global, row: Argument) -> Result<Arg<'a>, AllocError> {
     let arg = match row.place {
         Place::Named => arg.long(row.name),
         Place::Listed => arg.long(row.name).value_delimiter(','),
+        Place::Several(least) => arg.long(row.name).num_args(least..),
         Place::Word => arg,
         Place::Words(least) => arg.num_args(least..),
     };

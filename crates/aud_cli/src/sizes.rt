@@ -4,13 +4,13 @@ ghost use Rattle.aud_cli.specs.Sizes.{IsWithin, bytes_named, cut_unit, number_na
 
 use crate::split_options::PartsWanted;
 
-/// The number of this text, 1 to `most`: decimal digits, and a plus may stand before them.
-fn number_named(most: u64, text: &str) -> Option<u64>
-    ensures number { result ≡ number_named most text.now }
-    ensures within { IfSome result (λ n. (1 ≤ n) × (n ≤ most)) }
+/// The number of this text, `least` to `most`: decimal digits, and a plus may stand before them.
+pub(crate) fn number_named(least: u64, most: u64, text: &str) -> Option<u64>
+    ensures number { result ≡ number_named least most text.now }
+    ensures within { IfSome result (λ n. (least ≤ n) × (n ≤ most)) }
 {
     let number = text.parse::<u64>().ok()?;
-    if (1..=most).contains(&number) {
+    if (least..=most).contains(&number) {
         Some(number)
     } else {
         None
@@ -22,7 +22,7 @@ pub fn parts_named(text: &str) -> Option<PartsWanted>
     ensures parts { result ≡ parts_named text.now }
     ensures within { IfSome result IsWithin }
 {
-    let number = number_named(9_999, text)?;
+    let number = number_named(1, 9_999, text)?;
     Some(PartsWanted::Number(number as u16))
 }
 
@@ -38,7 +38,7 @@ fn cut_unit(unit: char, text: &str) -> Option<&str>
 fn units(unit: u64, text: &str) -> Option<u64>
     ensures { result ≡ units unit text.now }
 {
-    number_named(u64::MAX, text)?.checked_mul(unit)
+    number_named(1, u64::MAX, text)?.checked_mul(unit)
 }
 
 /// The bytes of this text: a number of them, or of K, M or G.

@@ -25,5 +25,6 @@ pub mod Texts
 pub mod Status
 pub mod RefusedLine
 pub mod Page
+pub mod Records
 pub mod Output
 pub mod Run

@@ -1,5 +1,5 @@
 -- What `explain` writes, and how it ends.
-use Rattle.std.specs.Prelude.{◌≡◌, ◌-◌, ◌^◌, ◌⊎◌, ℕ, List, [], ◌++◌, codes, count_by, length, min, sum_by, None, Option, Some}
+use Rattle.std.specs.Prelude.{◌≡◌, ◌-◌, ◌^◌, ◌⊎◌, ℕ, List, [], ◌∷◌, ◌++◌, codes, count_by, length, min, sum_by, None, Option, Some}
 use Rattle.std.specs.List.{filter}
 use Rattle.aud_node.specs.Cluster.{Cluster, cluster_of}
 use Rattle.aud_node.specs.Recoverable.{is_recoverable}
@@ -13,6 +13,8 @@ use Rattle.aud_input.specs.Files.{AreRecorded, IsRefused}
 use Rattle.aud_input.specs.InputFiles.{input_files}
 use Rattle.aud_input.specs.LineRuns.{taps_named}
 use Rattle.aud_cli.specs.declared.explain_options.ExplainOptions.{ExplainOptions}
+use Rattle.aud_cli.specs.declared.explain_options.NamedRecord.{NamedRecord}
+use Rattle.aud_tap.specs.declared.taps.Tap.{Tap}
 use Rattle.aud_cli.specs.declared.output_form.OutputForm.{OutputForm}
 use Rattle.aud_cli.specs.declared.output_form.OutputForm.TheVariants as asked
 use Rattle.aud_explain_app.specs.declared.written.Form.{Form}
@@ -39,6 +41,7 @@ use Rattle.aud_explain_app.specs.Chosen.{sessions_chosen}
 use Rattle.aud_explain_app.specs.Status.{status_by}
 use Rattle.aud_explain_app.specs.declared.output.Figures.{Figures}
 use Rattle.aud_explain_app.specs.Missing.{first_missing, pids_known}
+use Rattle.aud_explain_app.specs.Records.{first_lacking, records_output}
 use Rattle.aud_explain_app.specs.Strangers.{AreAdded, asked_in_vain}
 use Rattle.aud_explain_app.specs.Texts.{AddTexts}
 
@@ -99,6 +102,16 @@ pub record IsExplaining (options : ExplainOptions) (c : Cluster) (lines : List T
   pub text_is : output.text ≡ texts ++ summary_in (form_of options.form) (timed figures.summary seconds)
   pub status_is : output.status ≡ figures.status
 
+-- the output is that of these records
+abbrev pub IsShowing : List NamedRecord → Form → List Tap → List TapLines → List InputFile → OutputSeen → Type 0
+IsShowing named form taps lines files output = records_output form files taps lines named ≡ Some output
+
+-- the output over taps, where these are the lines of their records, in these files: the records that are named, or, where
+-- none is, the sessions explained
+abbrev pub IsAnswer : List NamedRecord → ExplainOptions → List Tap → List TapLines → List InputFile → Size → OutputSeen → Type 0
+IsAnswer [] options taps lines files size output = IsExplaining options (cluster_of taps) lines files size output
+IsAnswer (named ∷ more) options taps lines files size output = IsShowing (named ∷ more) (form_of options.form) taps lines files output
+
 -- where the lines of a part are to be named as those of the input, the part has this size
 abbrev pub IsOf : Option PartLines → Size → Type 0
 IsOf None size = Unit {0}
@@ -115,11 +128,12 @@ abbrev pub files_told : Option PartLines → List Text → List ℕ → List Inp
 files_told None names counts = input_files names counts
 files_told (Some part) names counts = part.files
 
--- what is told of files, by what their readers have left: their recording explained, or their first refused line told.
+-- what is told of files, by what their readers have left: their recording explained, or the records of it that are named
+-- shown, or their first refused line told.
 -- Where they are a part, the lines of records are named as those of the input, and a refused line as that of the part
 abbrev pub IsTold : ExplainOptions → Option PartLines → List (Option (List ℕ)) → OutputSeen → Type 0
 IsTold options part lefts output =
-    ((read : Recorded) × AreRecorded lefts read × IsOf part read.size × IsExplaining options (cluster_of read.taps) (lines_told part read.lines)
+    ((read : Recorded) × AreRecorded lefts read × IsOf part read.size × IsAnswer options.records options read.taps (lines_told part read.lines)
     (files_told part options.files read.counts.items) read.size output)
     ⊎ ((refusal : Refusal) × IsRefused lefts refusal × (output ≡ refused_output (form_of options.form) options.files refusal))
 
@@ -139,6 +153,10 @@ pub record IsExplanation (options : ExplainOptions) (part : Option PartLines) (l
 -- the files are recorded, and of the pids of the words the one with this number is the first that no session there has
 abbrev pub IsFirstMissing : ExplainOptions → List (Option (List ℕ)) → ℕ → Type 0
 IsFirstMissing options lefts number = (read : Recorded) × AreRecorded lefts read × (first_missing (pids_known (cluster_of read.taps)) options.pids ≡ Some number)
+
+-- the files are recorded, and of the records of the words the one with this number is the first that isn't there
+abbrev pub IsFirstLacking : ExplainOptions → List (Option (List ℕ)) → ℕ → Type 0
+IsFirstLacking options lefts number = (read : Recorded) × AreRecorded lefts read × (first_lacking read.taps options.records ≡ Some number)
 
 -- the part has another size
 abbrev pub IsOther : Option PartLines → Size → Type 0

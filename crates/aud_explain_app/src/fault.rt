@@ -1,5 +1,6 @@
 //! Why nothing was explained.
 ghost use Rattle.std.specs.Prelude.{◌≡◌};
+ghost use Rattle.aud_explain_app.specs.declared.fault.ExplainFault.TheVariants as fault;
 ghost use Rattle.aud_explain_app.specs.declared.fault.Unexplained.TheVariants.{Memory};
 
 use std::alloc::{AllocError, AllocFailed};
@@ -9,6 +10,8 @@ use std::alloc::{AllocError, AllocFailed};
 pub enum ExplainFault {
     /// Nothing was explained, and nothing written.
     Unexplained(Unexplained),
+    /// The bundle doesn't have this record of the words; they count from 0. Nothing was written.
+    NoRecord { number: usize },
     /// The files have another size than the part whose lines are to be named; nothing was written.
     OtherPart,
     /// The output could not be written.
@@ -26,6 +29,14 @@ pub enum Unexplained {
     Spawn,
     /// No record names this session of the words, and no client asked for it; they count from 0.
     NoSession { number: usize },
+}
+
+impl From<AllocError> for ExplainFault {
+    ghost from_gives = { λ _ e. e ≡ fault.Unexplained Memory };
+
+    fn from(_: AllocError) -> ExplainFault {
+        ExplainFault::Unexplained(Unexplained::Memory)
+    }
 }
 
 impl From<AllocError> for Unexplained {

@@ -1,5 +1,5 @@
 //! The mode `explain` as one call: [`explain`] reads the files of a bundle, judges, and writes why sessions are
-//! answered no.
+//! answered no; or it writes the records that are asked for by their numbers.
 //!
 //! With the bytes of a bundle as `bundle`, and `options` those of `aud_cli::explain_asked`:
 //!
@@ -27,6 +27,7 @@ mod output;
 mod page;
 mod prepared;
 mod program;
+mod records;
 mod refused;
 mod refused_told;
 mod sessions;

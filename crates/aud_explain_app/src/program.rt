@@ -8,17 +8,21 @@ ghost use Rattle.aud_input.specs.LineRuns.{taps_named};
 ghost use Rattle.aud_node.specs.Cluster.{cluster_of};
 ghost use Rattle.aud_node.specs.Names.{AreNamedOnce};
 ghost use Rattle.aud_explain_app.specs.Missing.{first_missing, pids_known};
-ghost use Rattle.aud_explain_app.specs.Output.{AreOther, IsExplaining, IsExplanation, IsFirstMissing, IsOf, IsOther, IsTold, files_told, form_of, lines_told};
+ghost use Rattle.aud_explain_app.specs.Output.{AreOther, IsAnswer, IsExplaining, IsExplanation, IsFirstLacking, IsFirstMissing, IsOf, IsOther, IsTold, files_told, form_of, lines_told};
+ghost use Rattle.aud_explain_app.specs.Records.{first_lacking};
 ghost use Rattle.aud_explain_app.specs.RefusedLine.{refused_output};
 ghost use Rattle.aud_explain_app.specs.Run.{Writes, WritesFront};
 ghost use Rattle.aud_explain_app.specs.declared.fault.ExplainFault.TheVariants as fault;
-ghost use Rattle.aud_explain_app.specs.declared.fault.ExplainFault.TheVariants.{OtherPart, Write};
+ghost use Rattle.aud_explain_app.specs.declared.fault.Unexplained.{Unexplained};
+ghost use Rattle.aud_explain_app.specs.declared.fault.ExplainFault.TheVariants.{NoRecord, OtherPart, Write};
 ghost use Rattle.aud_explain_app.specs.declared.fault.Unexplained.TheVariants.{Memory, NoSession};
 
 use crate::fault::{ExplainFault, Unexplained};
 use crate::html::in_form;
 use crate::output::{form_of, output_of};
+use crate::records::records_output;
 use crate::refused::refused_output;
+use crate::written::Layout;
 use aud_base::{Watched, write_out};
 use aud_cli::ExplainOptions;
 use aud_input::{
@@ -33,8 +37,8 @@ use std::sync::Wait;
 use std::thread::Threads;
 use std::time::{Clock, Instant};
 
-/// What is told of the recording, where the lines of its records are these, in these files.
-fn told_with<H: Threads + Wait + Clock + Sync>(
+/// The sessions of the recording explained, where the lines of its records are these, in these files.
+fn explaining<H: Threads + Wait + Clock + Sync>(
     rt: &H,
     alloc: Global,
     keys: RandomState,
@@ -48,15 +52,47 @@ fn told_with<H: Threads + Wait + Clock + Sync>(
     requires workers { (0 < options.now.workers) × (options.now.workers ≤ 64) }
     ensures told { IfOk result (IsExplaining options.now
         (cluster_of recorded.now.taps) lines.now files.now recorded.now.size) }
-    ensures missing { (number : ℕ) → result ≡ Err (fault.Unexplained (NoSession number))
-        → first_missing (pids_known (cluster_of recorded.now.taps)) options.now.pids ≡ Some number }
-    ensures other { result ≢ Err OtherPart }
-    ensures write { result ≢ Err Write }
+    ensures fault { IfErr result (λ e. (why : Unexplained) × (e ≡ fault.Unexplained why)
+        × ((number : ℕ) → why ≡ NoSession number
+        → first_missing (pids_known (cluster_of recorded.now.taps)) options.now.pids
+        ≡ Some number)) }
 {
     match output_of(rt, alloc, keys, options, start, recorded, lines, files) {
         Ok(output) => Ok(output),
         Err(why) => Err(ExplainFault::Unexplained(why)),
     }
+}
+
+/// What is told of the recording, where the lines of its records are these, in these files: the records that are named,
+/// or, where none is, its sessions.
+fn told_with<H: Threads + Wait + Clock + Sync>(
+    rt: &H,
+    alloc: Global,
+    keys: RandomState,
+    options: &ExplainOptions,
+    start: Option<Instant>,
+    recorded: &Recorded,
+    lines: &RecordLines,
+    files: &[InputFile],
+) -> Result<Output, ExplainFault>
+    requires names { AreNamedOnce recorded.now.taps }
+    requires workers { (0 < options.now.workers) × (options.now.workers ≤ 64) }
+    ensures told { IfOk result (IsAnswer options.now.records options.now
+        recorded.now.taps lines.now files.now recorded.now.size) }
+    ensures missing { (number : ℕ) → result ≡ Err (fault.Unexplained (NoSession number))
+        → first_missing (pids_known (cluster_of recorded.now.taps)) options.now.pids ≡ Some number }
+    ensures lacking { (number : ℕ) → result ≡ Err (NoRecord number)
+        → first_lacking recorded.now.taps options.now.records ≡ Some number }
+    ensures other { result ≢ Err OtherPart }
+    ensures write { result ≢ Err Write }
+{
+    let records = options.records.as_slice();
+    if records.is_empty() {
+        return explaining(rt, alloc, keys, options, start, recorded, lines, files);
+    }
+    let form = form_of(options);
+    let layout = Layout { form, files };
+    records_output(alloc, layout, recorded.taps.as_slice(), lines, records)
 }
 
 /// The same of a part, its lines named as those of the input that they come from.
@@ -72,10 +108,12 @@ fn told_named<H: Threads + Wait + Clock + Sync>(
     requires names { AreNamedOnce recorded.now.taps }
     requires workers { (0 < options.now.workers) × (options.now.workers ≤ 64) }
     ensures told { IfOk result (λ output. (part.now.size ≡ recorded.now.size)
-        × IsExplaining options.now (cluster_of recorded.now.taps)
+        × IsAnswer options.now.records options.now recorded.now.taps
         (taps_named part.now.runs recorded.now.lines) part.now.files recorded.now.size output) }
     ensures missing { (number : ℕ) → result ≡ Err (fault.Unexplained (NoSession number))
         → first_missing (pids_known (cluster_of recorded.now.taps)) options.now.pids ≡ Some number }
+    ensures lacking { (number : ℕ) → result ≡ Err (NoRecord number)
+        → first_lacking recorded.now.taps options.now.records ≡ Some number }
     ensures other { result ≡ Err OtherPart → ¬ (part.now.size ≡ recorded.now.size) }
     ensures write { result ≢ Err Write }
 {
@@ -83,10 +121,8 @@ fn told_named<H: Threads + Wait + Clock + Sync>(
         return Err(ExplainFault::OtherPart);
     }
     let files = part.files.as_slice();
-    match recorded.lines.named(alloc, &part.runs) {
-        Ok(lines) => told_with(rt, alloc, keys, options, start, recorded, &lines, files),
-        Err(_) => Err(ExplainFault::Unexplained(Unexplained::Memory)),
-    }
+    let lines = recorded.lines.named(alloc, &part.runs)?;
+    told_with(rt, alloc, keys, options, start, recorded, &lines, files)
 }
 
 /// The same of a whole, whose files are those that the words name.
@@ -100,22 +136,20 @@ fn told_whole<H: Threads + Wait + Clock + Sync>(
 ) -> Result<Output, ExplainFault>
     requires names { AreNamedOnce recorded.now.taps }
     requires workers { (0 < options.now.workers) × (options.now.workers ≤ 64) }
-    ensures told { IfOk result (IsExplaining options.now
-        (cluster_of recorded.now.taps) recorded.now.lines
+    ensures told { IfOk result (IsAnswer options.now.records options.now
+        recorded.now.taps recorded.now.lines
         (input_files options.now.files recorded.now.counts.items) recorded.now.size) }
     ensures missing { (number : ℕ) → result ≡ Err (fault.Unexplained (NoSession number))
         → first_missing (pids_known (cluster_of recorded.now.taps)) options.now.pids ≡ Some number }
+    ensures lacking { (number : ℕ) → result ≡ Err (NoRecord number)
+        → first_lacking recorded.now.taps options.now.records ≡ Some number }
     ensures other { result ≢ Err OtherPart }
     ensures write { result ≢ Err Write }
 {
     let lines = &recorded.lines;
-    match InputFiles::of(alloc, options.files.as_slice(), &recorded.counts) {
-        Ok(files) => {
-            let files = files.as_slice();
-            told_with(rt, alloc, keys, options, start, recorded, lines, files)
-        }
-        Err(_) => Err(ExplainFault::Unexplained(Unexplained::Memory)),
-    }
+    let files = InputFiles::of(alloc, options.files.as_slice(), &recorded.counts)?;
+    let files = files.as_slice();
+    told_with(rt, alloc, keys, options, start, recorded, lines, files)
 }
 
 /// What is told of the recording, where it is this part, or a whole.
@@ -132,12 +166,14 @@ fn told_of<H: Threads + Wait + Clock + Sync>(
     requires workers { (0 < options.now.workers) × (options.now.workers ≤ 64) }
     ensures told { IfOk result (λ output.
         IsOf (option_map (λ part. part.now) part.entry) recorded.now.size
-        × IsExplaining options.now (cluster_of recorded.now.taps)
+        × IsAnswer options.now.records options.now recorded.now.taps
         (lines_told (option_map (λ part. part.now) part.entry) recorded.now.lines)
         (files_told (option_map (λ part. part.now) part.entry) options.now.files
         recorded.now.counts.items) recorded.now.size output) }
     ensures missing { (number : ℕ) → result ≡ Err (fault.Unexplained (NoSession number))
         → first_missing (pids_known (cluster_of recorded.now.taps)) options.now.pids ≡ Some number }
+    ensures lacking { (number : ℕ) → result ≡ Err (NoRecord number)
+        → first_lacking recorded.now.taps options.now.records ≡ Some number }
     ensures other { result ≡ Err OtherPart
         → IsOther (option_map (λ part. part.now) part.entry) recorded.now.size }
     ensures write { result ≢ Err Write }
@@ -158,10 +194,8 @@ fn told_refused(
         ≡ refused_output (form_of options.now.form) options.now.files refused.now) }
     ensures fault { IfErr result (λ e. e ≡ fault.Unexplained Memory) }
 {
-    match refused_output(alloc, form_of(options), options.files.as_slice(), refused) {
-        Ok(output) => Ok(output),
-        Err(_) => Err(ExplainFault::Unexplained(Unexplained::Memory)),
-    }
+    let files = options.files.as_slice();
+    Ok(refused_output(alloc, form_of(options), files, refused)?)
 }
 
 /// What is told of the files.
@@ -179,6 +213,8 @@ fn told<H: Threads + Wait + Clock + Sync, R: Read>(
         (map (λ file. R.remaining (inner_of file)) files.old)) }
     ensures missing { (number : ℕ) → result ≡ Err (fault.Unexplained (NoSession number))
         → IsFirstMissing options.now (map (λ file. R.remaining (inner_of file)) files.old) number }
+    ensures lacking { (number : ℕ) → result ≡ Err (NoRecord number)
+        → IsFirstLacking options.now (map (λ file. R.remaining (inner_of file)) files.old) number }
     ensures other { result ≡ Err OtherPart
         → AreOther (option_map (λ part. part.now) part.entry)
         (map (λ file. R.remaining (inner_of file)) files.old) }
@@ -214,6 +250,8 @@ fn explained<H: Threads + Wait + Clock + Sync, R: Read>(
         (map (λ file. R.remaining (inner_of file)) files.old)) }
     ensures missing { (number : ℕ) → result ≡ Err (fault.Unexplained (NoSession number))
         → IsFirstMissing options.now (map (λ file. R.remaining (inner_of file)) files.old) number }
+    ensures lacking { (number : ℕ) → result ≡ Err (NoRecord number)
+        → IsFirstLacking options.now (map (λ file. R.remaining (inner_of file)) files.old) number }
     ensures other { result ≡ Err OtherPart
         → AreOther (option_map (λ part. part.now) part.entry)
         (map (λ file. R.remaining (inner_of file)) files.old) }
@@ -223,16 +261,16 @@ fn explained<H: Threads + Wait + Clock + Sync, R: Read>(
         Ok(told) => told,
         Err(fault) => return Err(fault),
     };
-    match in_form(alloc, options.form, told) {
-        Ok(output) => Ok(output),
-        Err(_) => Err(ExplainFault::Unexplained(Unexplained::Memory)),
-    }
+    Ok(in_form(alloc, options.form, told)?)
 }
 
 /// Reads the files one after the other as one input, decides, and only then writes. The files are those that the words
 /// name, in their order, or standard input where they name none. Where they are a part of a recording, `part` says from
 /// which lines of it their lines come, and these are named. Where there are several files, of the words or of what the
 /// part is of, each row of evidence says in which of them its line stands, and its number there.
+///
+/// Where the options name records, these are written in place of explanations, each with its line, and the run ends as
+/// one in which all is well.
 ///
 /// An audit of all sessions starts `options.workers` workers, each in a thread of its own; all else is shared out among
 /// at most so many threads, this one among them. How many they are changes nothing in what is written but the seconds,
@@ -267,6 +305,10 @@ pub fn explain<H: Threads + Wait + Clock + Sync, R: Read, W: Write>(
     // nothing is explained.
     ensures missing { (number : ℕ) → result ≡ Err (fault.Unexplained (NoSession number))
         → IsFirstMissing options.now (map (λ file. R.remaining (inner_of file)) files.old) number }
+    // `NoRecord` comes for the first record of the words that the bundle doesn't have, and for no other; where there is
+    // one, nothing is shown.
+    ensures lacking { (number : ℕ) → result ≡ Err (NoRecord number)
+        → IsFirstLacking options.now (map (λ file. R.remaining (inner_of file)) files.old) number }
     // `OtherPart` comes where the files are recorded, and have another size than the part, and only then.
     ensures other { result ≡ Err OtherPart
         → AreOther (option_map (λ part. part.now) part.entry)

@@ -5,7 +5,7 @@ use Rattle.std.proofs.lemmas.Bool.{cases_Bool}
 use Rattle.std.proofs.lemmas.Bool.Decides.{nat_tests}
 use Rattle.std.proofs.lemmas.List.{nil_from_length}
 use Rattle.std.proofs.lemmas.Str.{char_from_byte, chars-nil, chars_past_char, digit_value-digit_char, encode_same, encodes-chars, length-encode, len_utf8_bounds}
-use Rattle.aud_explanation.specs.Printed.{PrintedApart, hex, is_format, printed, shown}
+use Rattle.aud_explanation.specs.Printed.{PrintedApart, hex, is_format, json_printed, json_shown, printed, shown}
 
 -- ---- one character after the other
 
@@ -16,6 +16,16 @@ printed_empty text none = rw (ap chars (nil_from_length text none) ∙ chars-nil
 pub printed_step : (text rest : List ℕ) (c : ℕ) → IsUtf8 text → text ≡ encode_utf8 c ++ rest → printed text ≡ shown c ++ printed rest
 unfolding printed
 printed_step text rest c utf8 parts = rw (chars_past_char text rest c utf8 parts) refl
+
+-- the same of JSON
+
+pub json_empty : (text : List ℕ) → length text ≡ 0 → json_printed text ≡ []
+unfolding json_printed
+json_empty text none = rw (ap chars (nil_from_length text none) ∙ chars-nil) refl
+
+pub json_step : (text rest : List ℕ) (c : ℕ) → IsUtf8 text → text ≡ encode_utf8 c ++ rest → json_printed text ≡ json_shown c ++ json_printed rest
+unfolding json_printed
+json_step text rest c utf8 parts = rw (chars_past_char text rest c utf8 parts) refl
 
 -- ---- the four ways in which a character is printed
 

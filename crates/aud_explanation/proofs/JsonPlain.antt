@@ -1,6 +1,6 @@
 -- No explanation's JSON has a float.
 use Rattle.std.proofs.Common.{◌≡◌, ℕ, Bool, true, false, ◌||◌, List, [], ◌∷◌, Option, Some, None, refl, codes}
-use Rattle.std.specs.Option.{option_copied}
+use Rattle.std.specs.Option.{option_and_then, option_copied}
 use Rattle.std.specs.Ordering.{nat_cmp, match_ordering}
 use Rattle.std.specs.Cmp.Lexicographic.{slice_cmp}
 use Rattle.std.specs.declared.cmp.Ordering.TheVariants.{Less, Equal, Greater}
@@ -41,6 +41,7 @@ use Rattle.aud_explanation.specs.JsonCause.{cause_data, with_causes}
 use Rattle.aud_explanation.specs.JsonEvent.{after_data, from_data, to_data, event_data, with_events}
 use Rattle.aud_explanation.specs.JsonRefused.{missed_data, all_missed_data, reply_data, refused_data, with_refused}
 use Rattle.aud_explanation.specs.Json.{explanation_data}
+use Rattle.aud_explanation.specs.WholeRecord.{whole_record_data}
 
 -- ---- members and items
 
@@ -248,3 +249,17 @@ explanation-plain files e =
     let p7 = recoveries-plain files e.refused.now m6 p6 in
     let p8 = events-plain e.events.now m7 p7 in
     causes-plain e.causes.now m8 p8
+
+-- ---- a record by its number
+
+-- where its own JSON has none
+pub record-plain : (files : List InputFile) (tap : List ℕ) (number : ℕ) (line : Option ℕ) (json : Data) → has_float json ≡ false → has_float (whole_record_data files tap number line json) ≡ false
+unfolding whole_record_data
+record-plain files tap number line json plain =
+    let place : Option (List ℕ × ℕ) = option_and_then (place_told files) line in
+    let m1 : Members = with_place place no_members in
+    let m2 : Members = put (codes "line") (number_or_null line) m1 in
+    let m3 : Members = put (codes "number") (whole number) m2 in
+    let m4 : Members = put (codes "record") json m3 in
+    let m5 : Members = put (codes "tap") (string tap) m4 in
+    put-plain (codes "v") (whole 1) m5 refl (put-plain (codes "tap") (string tap) m4 refl (put-plain (codes "record") json m3 plain (put-plain (codes "number") (whole number) m2 refl (put-plain (codes "line") (number_or_null line) m1 (number-plain line) (place-plain place)))))

@@ -4,3 +4,4 @@ pub mod Filled
 pub mod JsonLists
 pub mod JsonPlain
 pub mod Laid
+pub mod PlainFront

@@ -32,3 +32,4 @@ pub mod JsonRefused
 pub mod JsonEvent
 pub mod JsonCause
 pub mod Json
+pub mod WholeRecord

@@ -32,6 +32,19 @@ shown c =
 unfoldable pub printed : List ℕ → List ℕ
 printed text = flat_map shown (chars text)
 
+-- a character of a JSON string by its code (RFC 8259, section 7)
+abbrev pub json_escape : ℕ → List ℕ
+json_escape c = codes "\\u" ++ hex (c / 256) ++ hex (c % 256)
+
+-- a character of JSON as it is printed: a control or a format character by its code, which tells the same string, and any
+-- other as it is. JSON without blanks between its tokens has such characters in strings alone
+abbrev pub json_shown : ℕ → List ℕ
+json_shown c = if is_control c || is_format c then json_escape c else encode_utf8 c
+
+-- JSON as it is printed
+unfoldable pub json_printed : List ℕ → List ℕ
+json_printed text = flat_map json_shown (chars text)
+
 -- texts that are printed alike are the same
 abbrev pub PrintedApart : Type 0
 PrintedApart = (a b : List ℕ) → IsUtf8 a → IsUtf8 b → printed a ≡ printed b → a ≡ b

@@ -1,6 +1,6 @@
 //! Texts as they are printed.
 ghost use Rattle.std.specs.Prelude.{◌≡◌, ◌++◌, ◌<◌, IfOk, OnOk, string_bytes};
-ghost use Rattle.aud_explanation.specs.Printed.{PrintedApart, format_escape, is_format, printed, shown};
+ghost use Rattle.aud_explanation.specs.Printed.{PrintedApart, format_escape, is_format, json_escape, json_printed, json_shown, printed, shown};
 
 use std::alloc::{AllocError, Global};
 
@@ -65,6 +65,38 @@ pub fn printed(alloc: Global, text: &str) -> Result<String, AllocError>
     let mut out = String::new(alloc);
     push_printed(&mut out, text)?;
     Ok(out)
+}
+
+/// Puts a character of a JSON string at the end by its code.
+fn push_json_escape(out: &mut String, code: u32) -> Result<(), AllocError>
+    requires { code < 65536 }
+    ensures { OnOk result (string_bytes out.new ≡ string_bytes out.old ++ json_escape code) }
+{
+    let (high, low) = (code / 256, code % 256);
+    write!(out, "\\u{high:02x}{low:02x}")
+}
+
+/// Puts a character of JSON at the end as it is printed.
+fn push_json_shown(out: &mut String, c: char) -> Result<(), AllocError>
+    ensures { OnOk result (string_bytes out.new ≡ string_bytes out.old ++ json_shown c) }
+{
+    if c.is_control() || is_format(c) {
+        push_json_escape(out, c as u32)
+    } else {
+        out.push(c)
+    }
+}
+
+/// Puts JSON without blanks between its tokens at the end as it is printed: a control or a format character, which
+/// stands in a string alone, as `\u202e` (RFC 8259, section 7), and all others as they are. It stays in its line, and
+/// is JSON of the same value.
+pub(crate) fn push_json_printed(out: &mut String, json: &str) -> Result<(), AllocError>
+    ensures { OnOk result (string_bytes out.new ≡ string_bytes out.old ++ json_printed json.now) }
+{
+    for c in json.chars() {
+        push_json_shown(out, c)?;
+    }
+    Ok(())
 }
 
 /// No two texts are printed alike: a law of [`push_printed`].

@@ -7,11 +7,11 @@ mod account;
 mod also;
 mod cause;
 mod event;
-mod place;
+pub(crate) mod place;
 mod refused;
 mod row;
 mod turn;
-mod value;
+pub(crate) mod value;
 mod verdict;
 
 use crate::explanation::{Explanation, class_of_explained};

@@ -2,7 +2,8 @@
 //!
 //! Begin at [`Explanation`], which whoever found the evidence fills. [`push_text`] writes it for a reader, and
 //! [`explanation_json`] for a program; both say in which of several files a line stands. [`printed`] is how names that
-//! others chose stand in text.
+//! others chose stand in text. [`whole_record_text`] and [`whole_record_json`] write a record that is asked for by its
+//! number.
 //!
 //! ```
 //! use aud_explanation::{Explanation, push_text};
@@ -40,6 +41,7 @@ mod refused;
 mod tail;
 mod text;
 mod turn;
+mod whole_record;
 
 pub use also::Also;
 pub use cause::Cause;
@@ -51,3 +53,4 @@ pub use json_line::explanation_json;
 pub use refused::{Missed, RefusedRecovery};
 pub use text::push_text;
 pub use turn::{TurnBegin, TurnEnd, TurnShown};
+pub use whole_record::{whole_record_json, whole_record_text};

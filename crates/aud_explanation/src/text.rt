@@ -22,6 +22,7 @@ use crate::text::cause::push_causes;
 use crate::text::client::push_client;
 use crate::text::event::push_events;
 use crate::text::evidence::push_evidence;
+pub(crate) use crate::text::place::push_place;
 pub(crate) use crate::text::record::push_record;
 use crate::text::refused::push_refused;
 use crate::text::turn::push_turns;

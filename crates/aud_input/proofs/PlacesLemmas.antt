@@ -1,5 +1,5 @@
 -- The places of taps by their names, and the lines of each tap with one more.
-use Rattle.std.proofs.Common.{◌≡◌, ℕ, zero, suc, ◌<◌, List, [], ◌∷◌, ◌++◌, length, Bool, true, false, true≢false, cond, Option, Some, None, option_map, get_or, set, refl, sym, ap, ◌∙◌, arith, bytes_eq}
+use Rattle.std.proofs.Common.{◌≡◌, ℕ, zero, suc, ◌<◌, List, [], ◌∷◌, ◌++◌, length, Bool, true, false, true≢false, cond, Option, Some, None, option_map, slice_get, get_or, set, refl, sym, ap, ◌∙◌, arith, bytes_eq}
 use Rattle.std.specs.HashMap.{HashMap, get_by_text, UpdatesBy}
 use Rattle.std.specs.Prelude.{String}
 use Rattle.std.specs.String.{string_bytes, string_eq}
@@ -83,6 +83,18 @@ place-with_line (u ∷ us) line zero e text = rw (first_of _ _ e) refl
 place-with_line (u ∷ us) line (suc i) e text =
     let later = some_of _ _ i e in
     rw later.0 (ap (λ o. cond (bytes_eq u.name text) (Some 0) (option_map suc o)) (place-with_line us line i later.1 text))
+
+-- where no two taps have one name, a tap of the name is the first with it
+pub place-at : (ts : List TapLines) (name : List ℕ) (i : ℕ) (t : TapLines) → AreNamedOnce ts → slice_get ts i ≡ Some t → bytes_eq t.name name ≡ true → place_in ts name ≡ Some i
+place-at [] name i t once at is = absurd (none-some t at)
+place-at (u ∷ us) name zero t once at is =
+    let same : u ≡ t = cc in
+    rw (same, is) refl
+place-at (u ∷ us) name (suc i) t once at is = go (bytes_eq u.name name) refl (place-at us name i t once.1 at is)
+  where
+    go : (b : Bool) → bytes_eq u.name name ≡ b → place_in us name ≡ Some i → cond b (Some 0) (option_map suc (place_in us name)) ≡ Some (suc i)
+    go true first later = absurd (none-some i (sym once.0 ∙ ap (place_in us) (same_text u.name name first) ∙ later))
+    go false other later = ap (option_map suc) later
 
 -- ---- no two taps have one name
 

@@ -22,6 +22,8 @@ pub struct LineIndex {
     alloc: Global,
     taps: Vec<TapLines>,
     places: HashMap<String, usize, RandomState>,
+    /// The place of the tap of the last line that was noted, which is mostly that of the next one too.
+    last: usize,
     lines: u64,
 }
 
@@ -35,6 +37,7 @@ impl LineIndex {
             alloc,
             taps: Vec::new(alloc),
             places: HashMap::with_hasher(alloc, keys),
+            last: 0,
             lines: 0,
         }
     }
@@ -55,10 +58,23 @@ impl LineIndex {
         ensures keeps { OnOk result (KeepsPlaces self.new) }
     {
         let key = String::from_str(self.alloc, name)?;
-        self.places.insert(key, self.taps.len())?;
+        let place = self.taps.len();
+        self.places.insert(key, place)?;
         let tap = TapLines::new(self.alloc, name, number)?;
         self.taps.push(tap)?;
+        self.last = place;
         Ok(())
+    }
+
+    /// The place of the tap of this name.
+    fn place_of(&self, name: &str) -> Option<usize>
+        requires { KeepsPlaces self.now }
+        ensures { result ≡ place_in self.now.taps.items name.now }
+    {
+        match self.taps.get(self.last) {
+            Some(tap) if tap.is_named(name) => Some(self.last),
+            _ => self.places.get(name).copied(),
+        }
     }
 
     /// The next line that begins with a name has this number.
@@ -68,8 +84,11 @@ impl LineIndex {
             ≡ with_line self.old.taps.items (record { number = number; name = name.now })) }
         ensures keeps { OnOk result (KeepsPlaces self.new) }
     {
-        match self.places.get(name).copied() {
-            Some(place) => self.taps[place].push(number)?,
+        match self.place_of(name) {
+            Some(place) => {
+                self.taps[place].push(number)?;
+                self.last = place;
+            }
             None => self.open(name, number)?,
         }
         Ok(())

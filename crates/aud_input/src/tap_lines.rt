@@ -1,5 +1,6 @@
 //! The lines of each tap.
 ghost use Rattle.std.specs.Prelude.{◌≡◌, ◌++◌, ◌∷◌, [], OnOk, IfOk};
+ghost use Rattle.std.specs.Str.{bytes_eq};
 ghost use Rattle.aud_input.specs.LineRuns.{line_in, numbers_named, tap_named, taps_named};
 ghost use Rattle.aud_input.specs.TapLines.{first_kept, first_like, kept_line};
 
@@ -33,6 +34,13 @@ impl TapLines {
         let mut numbers = Vec::new(alloc);
         numbers.push(number)?;
         Ok(TapLines { name, numbers })
+    }
+
+    /// Whether the tap has this name.
+    pub fn is_named(&self, name: &str) -> bool
+        ensures { result ≡ bytes_eq self.now.name name.now }
+    {
+        self.name.as_str() == name
     }
 
     /// One more line.

@@ -11,7 +11,7 @@ use Rattle.aud_input.specs.declared.part_lines.PartLines.{PartLines}
 use Rattle.aud_input.specs.declared.reading.Size.{Size}
 use Rattle.aud_input.specs.LineRuns.{capped, count_of}
 use Rattle.aud_parts.specs.declared.named_lines.fault.LinesFault.{LinesFault}
-use Rattle.aud_parts.specs.declared.named_lines.fault.LinesFault.TheVariants.{NoSize, NoRun, OtherCount, Memory}
+use Rattle.aud_parts.specs.declared.named_lines.fault.LinesFault.TheVariants.{NoSize, BadLine, OtherCount, Memory}
 use Rattle.aud_parts.specs.Cut.{cut_at, whole_lines, number_in}
 use Rattle.aud_parts.specs.Listing.{number_under}
 
@@ -102,7 +102,7 @@ runs_in (line ∷ lines) = option_map_or (λ run. run ∷ runs_in lines) (run_in
 abbrev pub files_in : ℕ → List (List ℕ) → Result (List InputFile) LinesFault
 files_in number [] = Ok []
 files_in number (line ∷ lines) =
-    need (NoRun number) (file_in line) >>= (λ file. files_in (number + 1) lines >>= (λ files. Ok (file ∷ files)))
+    need (BadLine number) (file_in line) >>= (λ file. files_in (number + 1) lines >>= (λ files. Ok (file ∷ files)))
 
 -- a part of this size with these runs and files, if the runs have as many lines
 unfoldable pub part_with : Size → List LineRun → List InputFile → Result PartLines LinesFault

@@ -1,6 +1,7 @@
 pub mod Lists
 pub mod WrittenBack
 pub mod JsonText
+mod ByNumber
 pub mod LineBack
 pub mod BundleSoFar
 pub mod Newlines

@@ -1,6 +1,7 @@
 //! The writer of a bundle: the line of a record, and the bytes of all taps.
 //!
-//! Begin at [`line`] and [`bundle`]; the JSON of each kind of record has a module of its own.
+//! Begin at [`line`] and [`bundle`]; the JSON of each kind of record has a module of its own, and [`value_at`] gives
+//! that of one record of a tap.
 //!
 //! Writing that node `a` takes an entry of the stream:
 //!
@@ -21,8 +22,10 @@ mod fields;
 mod forms;
 mod line;
 mod node;
+mod numbered;
 mod stream;
 
 pub use bundle::write_bundle;
 pub use forms::is_well_formed;
 pub use line::write_line;
+pub use numbered::value_at;

@@ -114,6 +114,7 @@ fn failed(
 ) -> ExitCode {
     match (fault, part, &options.lines) {
         (ExplainFault::Unexplained(why), _, _) => unexplained(rt, alloc, options, files, why),
+        (ExplainFault::NoRecord { number }, _, _) => no_record(rt, alloc, options, number),
         (ExplainFault::OtherPart, Some(part), Some(name)) => {
             other_part(rt, alloc, name.as_str(), part.size)
         }
@@ -173,6 +174,19 @@ fn no_session(
     };
     let pid = pid.as_str();
     let _ = eprintln!(rt; "error: nothing in the bundle names the session {pid}");
+    ExitCode::from(4)
+}
+
+/// Says that the bundle doesn't have a record of the arguments.
+fn no_record(rt: &impl Eprint, alloc: Global, options: &ExplainOptions, number: usize) -> ExitCode {
+    let Some(named) = options.records.as_slice().get(number) else {
+        return fail(rt, RunFault::Memory);
+    };
+    let Ok(tap) = printed(alloc, named.tap.as_str()) else {
+        return fail(rt, RunFault::Memory);
+    };
+    let (number, tap) = (named.number, tap.as_str());
+    let _ = eprintln!(rt; "error: the bundle has no record {number} of a tap {tap}");
     ExitCode::from(4)
 }
 

@@ -1,7 +1,8 @@
 //! Lines of text, laid out.
-ghost use Rattle.std.specs.Prelude.{◌≡◌, ◌++◌, ◌≤◌, OnOk, string_bytes};
-ghost use Rattle.std.specs.Str.{chars};
-ghost use Rattle.aud_explanation.specs.Page.{columns, fits, word_fits, ends_line, placed, next_column, laid_line, blanks, to_left, to_right};
+ghost use Rattle.std.specs.Prelude.{◌≡◌, ◌+◌, ◌++◌, ◌≤◌, true, IfOk, OnOk, drop, length, take, string_bytes};
+ghost use Rattle.std.specs.List.{list_all};
+ghost use Rattle.std.specs.Str.{IsUtf8, chars};
+ghost use Rattle.aud_explanation.specs.Page.{columns, fits, word_fits, ends_line, placed, next_column, laid, laid_line, blanks, to_left, to_right, is_plain, stays_together};
 
 use crate::escape::{is_format, push_shown};
 use std::alloc::AllocError;
@@ -65,34 +66,64 @@ fn ends_line(column: usize, c: char, rest: &str) -> bool
     }
 }
 
-/// The column after the character.
-fn next_column(column: usize, c: char, rest: &str) -> usize
+/// Puts the character at the end, in the next line where this one is full: the column after it.
+fn push_char(out: &mut String, column: usize, c: char, rest: &str) -> Result<usize, AllocError>
     requires { column ≤ 100 }
-    ensures next { result ≡ next_column column c (chars rest.now) }
-    ensures within { result ≤ 100 }
+    ensures text { OnOk result (string_bytes out.new
+        ≡ string_bytes out.old ++ placed column c (chars rest.now)) }
+    ensures next { IfOk result (λ next. next ≡ next_column column c (chars rest.now)) }
+    ensures within { IfOk result (λ next. next ≤ 100) }
 {
     if ends_line(column, c, rest) {
-        INDENT
-    } else if fits(column, c) {
-        column + columns(c)
-    } else {
-        INDENT + columns(c)
+        out.push_str("\n        ")?;
+        return Ok(INDENT);
     }
+    let width = columns(c);
+    if column + width <= WIDTH {
+        push_shown(out, c)?;
+        return Ok(column + width);
+    }
+    out.push_str("\n        ")?;
+    push_shown(out, c)?;
+    Ok(INDENT + width)
 }
 
-/// Puts the character at the end, in the next line where this one is full.
-fn push_char(out: &mut String, column: usize, c: char, rest: &str) -> Result<(), AllocError>
-    requires { column ≤ 100 }
-    ensures { OnOk result (string_bytes out.new
-        ≡ string_bytes out.old ++ placed column c (chars rest.now)) }
+/// Whether the byte is a character that is shown as itself in one column.
+fn is_plain(byte: u8) -> bool
+    ensures { result ≡ is_plain byte }
 {
-    if ends_line(column, c, rest) {
-        return out.push_str("\n        ");
+    matches!(byte, b' '..=b'[' | b']'..=b'~')
+}
+
+/// How many bytes at the front are such characters, and no line ends among them: at most so many.
+fn front_len(bytes: &[u8], most: usize) -> usize
+    ensures within { result ≤ most }
+    ensures in_bytes { result ≤ length bytes.now }
+    ensures plain { list_all is_plain (take result bytes.now) ≡ true }
+    ensures whole { stays_together (take result bytes.now) (drop result bytes.now) ≡ true }
+{
+    let mut end = None;
+    for (n, byte) in bytes.iter().enumerate() {
+        if *byte == b' ' {
+            end = Some(n);
+        }
+        if n == most || !is_plain(*byte) {
+            return end.unwrap_or(n);
+        }
     }
-    if !fits(column, c) {
-        out.push_str("\n        ")?;
-    }
-    push_shown(out, c)
+    bytes.len()
+}
+
+/// The front of the text that stands in the line as it is, and what is left.
+fn laid_front(text: &str, column: usize) -> (&str, &str)
+    requires { column ≤ 100 }
+    ensures within { column + length result.0.now ≤ 100 }
+    ensures shorter { length result.1.now ≤ length text.now }
+    ensures utf8 { IsUtf8 result.1.now }
+    ensures laid { laid column (chars text.now)
+        ≡ result.0.now ++ laid (column + length result.0.now) (chars result.1.now) }
+{
+    text.split_at(front_len(text.as_bytes(), WIDTH - column))
 }
 
 /// Puts a line at the end, laid out in lines of at most 100 columns, each with its newline.
@@ -100,13 +131,17 @@ pub(crate) fn push_line(out: &mut String, line: &str) -> Result<(), AllocError>
     ensures { OnOk result (string_bytes out.new ≡ string_bytes out.old ++ laid_line line.now) }
 {
     let mut column = 0;
-    let mut left = line.chars();
-    while let Some(c) = left.next() {
-        let rest = left.as_str();
-        push_char(out, column, c, rest)?;
-        column = next_column(column, c, rest);
+    let mut left = line;
+    loop {
+        let (front, rest) = laid_front(left, column);
+        out.push_str(front)?;
+        let mut characters = rest.chars();
+        let Some(c) = characters.next() else {
+            return out.push('\n');
+        };
+        left = characters.as_str();
+        column = push_char(out, column + front.len(), c, left)?;
     }
-    out.push('\n')
 }
 
 /// Puts so many blanks at the end.

@@ -15,7 +15,7 @@ pub enum LinesFault {
     /// The line of this number is neither a run's, `<count> <line>`, both from 1 on, nor a file's,
     /// `file=<lines> <name>`; or it is a run's after a file's.
     #[error("line {0}: is neither <count> <line>, both from 1 on, nor, after those, file=<lines> <name>")]
-    NoRun(usize),
+    BadLine(usize),
     /// The runs have fewer lines than the first line says, or more; or the last line isn't ended by a newline.
     #[error("names fewer or more lines than its line 1 says")]
     OtherCount,

@@ -71,7 +71,7 @@ fn files_in(alloc: Global, before: usize, lines: &[LentBytes<'_>]) -> Result<Inp
     let mut files = InputFiles::new(alloc);
     for number in before..lines.len() {
         let Some((name, count)) = file_in(lines[number].as_slice()) else {
-            return Err(LinesFault::NoRun(number + 1));
+            return Err(LinesFault::BadLine(number + 1));
         };
         files.push(Text::new(alloc, name)?, count)?;
     }

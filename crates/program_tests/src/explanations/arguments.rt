@@ -1,7 +1,7 @@
 //! The arguments of `explain`.
 use crate::arguments::words_of;
 use crate::case::cut;
-use aud_cli::{ExplainOptions, FailOn, Faults, Only, explain_asked};
+use aud_cli::{ExplainOptions, FailOn, Faults, NamedRecord, Only, explain_asked};
 use aud_tap::Text;
 use std::alloc::{AllocError, Global};
 use std::process::Abort;
@@ -88,6 +88,39 @@ static MORE_ARGUMENTS: [&str; 36] = [
     "explain --help\nhelp: \n[default: 4]",
 ];
 
+/// Those that name records.
+static RECORD_ARGUMENTS: [&str; 29] = [
+    "explain --record a 3\nread all, form Text, \n, pids, records a:3, files\n",
+    "explain --record a 3 0 3\nread \n, pids, records a:3 a:0 a:3, files\n",
+    "explain --record=a 3 4 f\nread \n, pids, records a:3 a:4, files f\n",
+    "explain f --record a 3 g 4\nread \n, pids, records a:3, files f g 4\n",
+    "explain 5 --record a 3 -- 4\nread \n, pids, records a:3, files 5 4\n",
+    "explain --record a 3 --record st 0 1 --json f\nread all, form Json, \n, pids, records a:3 st:0 st:1, files f\n",
+    "explain --record a 3 --quiet 4\nread all, form Text, quiet true\n, pids, records a:3, files 4\n",
+    "explain --record -- 3 -\nread \n, pids, records --:3, files -\n",
+    "explain --record 7 7 7x 7\nread \n, pids, records 7:7, files 7x 7\n",
+    "explain --record a 18446744073709551615\nread \nrecords a:18446744073709551615, files\n",
+    "explain --record a 1 18446744073709551616\nread \nrecords a:1, files 18446744073709551616\n",
+    "explain --record a 007 +8\nread \nrecords a:7 a:8, files\n",
+    "explain --lines p.lines --record a 3 --workers 1 p.jsonl\nread all, form Text, quiet false, workers 1, \n, lines p.lines, pids, records a:3, files p.jsonl\n",
+    "explain --record\nrefused: \n--record",
+    "explain --record a\nrefused: \n--record",
+    "explain --record=a\nrefused: \n--record",
+    "explain --record a f\nrefused: error: --record has the name of a tap, and after it the numbers of records\n--help",
+    "explain --record a -- 3\nrefused: \n--record",
+    "explain --record a --record b 3\nrefused: \n--record",
+    "explain --record a 18446744073709551616\nrefused: error: --record has the name of a tap, and after it the numbers of records\n--help",
+    "explain --record a 3 --pid P\nrefused: error: the argument '--record\ncannot be used with '--pid",
+    "explain --record a 3 --html\nrefused: error: the argument '--record\ncannot be used with '--html'",
+    "explain --only no --record a 3\nrefused: \ncannot be used with",
+    "explain --fail-on LOST --record a 3\nrefused: \ncannot be used with",
+    "explain --record a 3 --whole\nrefused: \ncannot be used with '--whole'",
+    "explain --record a 3 --unknown\nrefused: error: unexpected argument '--unknown' found\nUsage",
+    "audit --record a 3\nrefused: error: unexpected argument '--record' found\nUsage",
+    "explain --help\nhelp: \n--record <TAP> <NUMBER>...",
+    "explain --help\nhelp: \nthey count from 0, without the tap's",
+];
+
 /// Adds the texts, each after a blank.
 fn push_texts(out: &mut String, texts: &[Text]) -> Result<(), AllocError> {
     for text in texts {
@@ -151,6 +184,18 @@ fn push_fail_on(out: &mut String, fail_on: FailOn) -> Result<(), AllocError> {
     push_faults(out, fail_on.faults)
 }
 
+/// Adds the records that are named, if there are some.
+fn push_records(out: &mut String, records: &[NamedRecord]) -> Result<(), AllocError> {
+    if !records.is_empty() {
+        write!(out, ", records")?;
+    }
+    for record in records {
+        let (tap, number) = (record.tap.as_str(), record.number);
+        write!(out, " {tap}:{number}")?;
+    }
+    Ok(())
+}
+
 /// The options, in words.
 fn options_text(alloc: Global, options: &ExplainOptions) -> Result<String, AllocError> {
     let (form, quiet, workers) = (options.form, options.quiet, options.workers);
@@ -171,6 +216,7 @@ fn options_text(alloc: Global, options: &ExplainOptions) -> Result<String, Alloc
     }
     write!(out, ", pids")?;
     push_texts(&mut out, options.pids.as_slice())?;
+    push_records(&mut out, options.records.as_slice())?;
     write!(out, ", files")?;
     push_texts(&mut out, options.files.as_slice())?;
     writeln!(out, "")?;
@@ -210,5 +256,6 @@ fn assert_texts(rt: &impl Abort, alloc: Global, rows: &[&str]) -> Result<(), Fai
 #[test]
 fn arguments_are_read(rt: HostRuntime) -> Result<(), Fail> {
     assert_texts(&rt, rt.alloc(), &ARGUMENTS)?;
-    assert_texts(&rt, rt.alloc(), &MORE_ARGUMENTS)
+    assert_texts(&rt, rt.alloc(), &MORE_ARGUMENTS)?;
+    assert_texts(&rt, rt.alloc(), &RECORD_ARGUMENTS)
 }

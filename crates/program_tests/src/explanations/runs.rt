@@ -3,7 +3,9 @@ use crate::explanations::cases::assert_cases;
 use std::test::Fail;
 
 /// Texts of these cases, each after its name.
-static TEXTS: [&str; 7] = [
+static TEXTS: [&str; 8] = [
+    // Characters that are not seen, in an event's text and in a room.
+    "UNSEEN\nst {\"k\":\"tap\",\"v\":1,\"of\":\"stream\"}\nst {\"text\":\"2[\\\"\u{202e}\u{7f}\\\",\\\"1\\\"]\",\"k\":\"ev\",\"off\":\"1\",\"rooms\":[\"\u{e9}\u{feff}\"], \"nsp\":\"/\"}",
     // A session whose one entry is volatile.
     r#"VOLATILE
 st {"k":"tap","v":1,"of":"stream"}
@@ -122,6 +124,61 @@ sessions: *"#,
 #[test]
 fn sessions_that_are_shown_and_the_status(rt: HostRuntime) -> Result<(), Fail> {
     assert_cases(&rt, rt.alloc(), &TEXTS, &CHOICES)
+}
+
+/// Records by their numbers.
+static RECORDS: [&str; 10] = [
+    r#"explain --record a 3 0 --record c1 1
+@YES
+-> Ok(AllYes)
+a 3  line 7  {"k":"take","off":"1-0"}
+a 0  line 4  {"k":"start","off":null}
+c1 1  line 10  {"k":"in","t":"40{\"sid\":\"s1\",\"pid\":\"P\"}"}
+"#,
+    r#"explain --json --record st 0
+@YES
+-> Ok(AllYes)
+{"file":null,"file_line":null,"line":2,"number":0,"record":{"k":"ev","nsp":"/","off":"1-0","rooms":["r"],"text":"2[\"hi\",\"1-0\"]"},"tap":"st","v":1}
+"#,
+    "explain --record st 0 a b\\\u{202e}\n@EMPTY UNSEEN\n-> Ok(AllYes)\nst 0  line 2  (b\\\\\\u{202e}:2)  {\"k\":\"ev\",\"nsp\":\"/\",\"off\":\"1\",\"rooms\":[\"\u{e9}\\ufeff\"],\"text\":\"2[\\\"\\u202e\\u007f\\\",\\\"1\\\"]\"}\n",
+    r#"explain --json --record a 1 a.jsonl b.jsonl
+@FIRST
+a {"k":"start","off":null}
+a {"k":"gone","pid":"P"}
+-> Ok(AllYes)
+{"file":"b.jsonl","file_line":2,"line":4,"number":1,"record":{"k":"gone","pid":"P"},"tap":"a","v":1}
+"#,
+    r#"explain --record a 0 4
+@YES
+-> Err(NoRecord { number: 1 })
+"#,
+    r#"explain --record b 0 --record a 4
+@YES
+-> Err(NoRecord { number: 0 })
+"#,
+    r#"explain --record a 18446744073709551615
+@YES
+-> Err(NoRecord { number: 0 })
+"#,
+    r#"explain --record a 0
+@EMPTY
+-> Err(NoRecord { number: 0 })
+"#,
+    r#"explain --record a 0
+@BOTH
+-> Ok(Refused)
+line 4: Field
+The field room is missing: it has to be a text.
+"#,
+    r#"explain --record A 0
+@YES
+-> Err(NoRecord { number: 0 })
+"#,
+];
+
+#[test]
+fn records_by_their_numbers(rt: HostRuntime) -> Result<(), Fail> {
+    assert_cases(&rt, rt.alloc(), &TEXTS, &RECORDS)
 }
 
 /// Recordings of which the answers mean nothing.

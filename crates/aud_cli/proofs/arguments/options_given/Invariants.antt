@@ -1,5 +1,5 @@
 use Rattle.std.proofs.Common.{◌≡◌, ◌≤◌, ◌-◌, length, drop}
-use Rattle.aud_cli.specs.Given.{given_of}
+use Rattle.aud_cli.specs.Given.{given_from}
 use Rattle.aud_cli.specs.Arguments.{AreWithin, options_given}
 use Rattle.aud_cli.proofs.Taken.{options_left}
 use Rattle.aud_cli.proofs.arguments.options_given.Given as goal
@@ -8,7 +8,7 @@ use Rattle.aud_cli.proofs.arguments.options_given.Given as goal
 abbrev pub invariant-words : goal.invariant-words
 invariant-words l =
     (l.at ≤ length l.words)
-    × (options_left l.mode (given_of (drop l.at l.words)) l.options ≡ options_given l.mode l.words)
+    × (options_left l.mode (given_from l.may_be (drop l.at l.words)) l.options ≡ options_given l.mode l.words)
     × AreWithin l.mode l.options
 
 -- there are fewer words each time

@@ -17,5 +17,8 @@ returns-in-Ok-clause-told g c = IfOk-weaker c.told_of.result _ _ (λ output told
 pub returns-in-Ok-clause-missing : goal.returns-in-Ok-clause-missing
 returns-in-Ok-clause-missing g c = λ number is. (c.deref.result.now, recorded g c, c.told_of.ensures.missing number is)
 
+pub returns-in-Ok-clause-lacking : goal.returns-in-Ok-clause-lacking
+returns-in-Ok-clause-lacking g c = λ number is. (c.deref.result.now, recorded g c, c.told_of.ensures.lacking number is)
+
 pub returns-in-Ok-clause-other : goal.returns-in-Ok-clause-other
 returns-in-Ok-clause-other g c = λ is. (c.deref.result.now, recorded g c, c.told_of.ensures.other is)

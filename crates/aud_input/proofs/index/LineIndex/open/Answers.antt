@@ -16,8 +16,8 @@ returns-clause-keeps c =
     let line : NamedLine = record { number = c.args.number; name = c.args.name.now } in
     let t : TapLines = record { name = c.args.name.now; numbers = c.args.number ∷ [] } in
     let put : c.push.new.self.items ≡ ts ++ t ∷ [] = c.in_ok-push.ensures.items ∙ ap (λ u. ts ++ u ∷ []) c.in_ok-tap.ensures in
-    let sized : c.len.result ≡ length ts = omega (arith, c.len.ensures, c.args.self.now.taps.ok.0) in
+    let sized : c.len-place.result ≡ length ts = omega (arith, c.len-place.ensures, c.args.self.now.taps.ok.0) in
     record {
-      places = λ text. rw put (places-put c.args.self.now.places c.insert.new.self ts t c.in_ok-key.key c.len.result c.in_ok-key.ensures.ok sized c.in_ok-insert.ensures.updates c.requires.keeps.places c.requires.first text);
+      places = λ text. rw put (places-put c.args.self.now.places c.insert.new.self ts t c.in_ok-key.key c.len-place.result c.in_ok-key.ensures.ok sized c.in_ok-insert.ensures.updates c.requires.keeps.places c.requires.first text);
       once = rw (put ∙ sym (with_line-new ts line c.requires.first)) (once-with_line ts line c.requires.keeps.once);
     }

@@ -1,0 +1,135 @@
+//! A record as a line of the bundle has it, where it is asked for by its number.
+ghost use Rattle.std.specs.Prelude.{◌≡◌, ◌++◌, false, IfOk, OnOk, string_bytes};
+ghost use Rattle.std.specs.Option.{option_and_then};
+ghost use Rattle.serde_json.specs.Data.{no_members};
+ghost use Rattle.serde_json.specs.View.{members_view, view};
+ghost use Rattle.serde_json.specs.Written.{has_float};
+ghost use Rattle.aud_input.specs.InputFiles.{place_told};
+ghost use Rattle.aud_explanation.specs.Place.{with_place};
+ghost use Rattle.aud_explanation.specs.WholeRecord.{head_words, line_words, whole_record_data, whole_record_json, whole_record_text};
+
+use crate::escape::{push_json_printed, push_printed};
+use crate::json_line::place::put_place;
+use crate::json_line::value::number_or_null;
+use crate::text::push_place;
+use aud_input::InputFile;
+use serde_json::{Map, Value, put};
+use std::alloc::{AllocError, Global};
+
+/// Puts the line at the end, where it is known.
+fn push_line_words(
+    head: &mut String,
+    files: &[InputFile],
+    line: Option<u64>,
+) -> Result<(), AllocError>
+    ensures { OnOk result (string_bytes head.new
+        ≡ string_bytes head.old ++ line_words files.now line) }
+{
+    match line {
+        Some(line) => {
+            write!(head, "  line {line}")?;
+            push_place(head, files, line)
+        }
+        None => Ok(()),
+    }
+}
+
+/// The tap, the record's number, and its line.
+fn head_words(
+    alloc: Global,
+    files: &[InputFile],
+    tap: &str,
+    number: u64,
+    line: Option<u64>,
+) -> Result<String, AllocError>
+    ensures { IfOk result (λ head. string_bytes head ≡ head_words files.now tap.now number line) }
+{
+    let mut head = format!(in alloc; "{tap} {number}")?;
+    push_line_words(&mut head, files, line)?;
+    Ok(head)
+}
+
+/// The record with this number of the tap of this name, its line where that is known, and its JSON, as a line of text
+/// of any number of columns: `a 3  line 12  {"k":"take","off":"1-0"}`. Names stand there as
+/// [`push_printed`](crate::push_printed) puts them. Characters of the JSON that are not seen, or change how others are,
+/// stand there by their codes, as in `\u202e`, which is JSON of the same value. Where there are several files, the line
+/// says in which of them it stands too.
+pub fn whole_record_text(
+    alloc: Global,
+    files: &[InputFile],
+    tap: &str,
+    number: u64,
+    line: Option<u64>,
+    json: &Value,
+) -> Result<String, AllocError>
+    ensures { has_float (view json.now) ≡ false → IfOk result (λ text. string_bytes text
+        ≡ whole_record_text files.now tap.now number line (view json.now)) }
+{
+    let head = head_words(alloc, files, tap, number, line)?;
+    let json = json.to_string(alloc)?;
+    let mut out = String::new(alloc);
+    push_printed(&mut out, head.as_str())?;
+    out.push_str("  ")?;
+    push_json_printed(&mut out, json.as_str())?;
+    out.push_str("\n")?;
+    Ok(out)
+}
+
+/// Puts where the line stands among several files, where it is known.
+fn put_place_of(
+    alloc: Global,
+    members: &mut Map<String, Value>,
+    files: &[InputFile],
+    line: Option<u64>,
+) -> Result<(), AllocError>
+    ensures { OnOk result (members_view members.new.entries
+        ≡ with_place (option_and_then (place_told files.now) line)
+        (members_view members.old.entries)) }
+{
+    match line {
+        Some(line) => put_place(alloc, members, files, line),
+        None => put_place(alloc, members, &[], 0),
+    }
+}
+
+#[tactic(auto, unfolding(crate::specs::WholeRecord::whole_record_data))]
+fn whole_record_value(
+    alloc: Global,
+    files: &[InputFile],
+    tap: &str,
+    number: u64,
+    line: Option<u64>,
+    json: Value,
+) -> Result<Value, AllocError>
+    ensures { IfOk result (λ value. view value
+        ≡ whole_record_data files.now tap.now number line (view json)) }
+{
+    let mut members = Map::new(alloc);
+    put_place_of(alloc, &mut members, files, line)?;
+    put(&mut members, alloc, "line", number_or_null(line))?;
+    put(&mut members, alloc, "number", Value::from(number))?;
+    put(&mut members, alloc, "record", json)?;
+    put(&mut members, alloc, "tap", Value::try_from_str(alloc, tap)?)?;
+    put(&mut members, alloc, "v", Value::from(1u64))?;
+    Ok(Value::Object(members))
+}
+
+/// The same as a line of JSON: `{"file":..,"file_line":..,"line":..,"number":..,"record":..,"tap":..,"v":1}`. What isn't
+/// known is `null`, and so are `file` and `file_line` where there are fewer than two files. `v` is the version of these
+/// members.
+pub fn whole_record_json(
+    alloc: Global,
+    files: &[InputFile],
+    tap: &str,
+    number: u64,
+    line: Option<u64>,
+    json: Value,
+) -> Result<String, AllocError>
+    ensures { has_float (view json) ≡ false → IfOk result (λ text. string_bytes text
+        ≡ whole_record_json files.now tap.now number line (view json)) }
+{
+    let value = whole_record_value(alloc, files, tap, number, line, json)?;
+    let mut text = value.to_string(alloc)?;
+    text.push_str("\n")?;
+    Ok(text)
+}
