@@ -55,7 +55,7 @@ fn read_line(
         (record { number = number; bytes = named_line name.now line.now } ∷ more) ≡ Err e) }
 {
     match named_line(alloc, number, name, line) {
-        Ok(line) => reader.line(&line),
+        Ok(line) => reader.line(&line.lent()),
         Err(_) => Err(ReadFault::Memory),
     }
 }

@@ -1,8 +1,8 @@
 //! Lines that are read together.
-ghost use Rattle.std.specs.Prelude.{◌≡◌, ◌<◌, ◌≤◌, ◌++◌, ◌∷◌, [], length, true, OnOk};
+ghost use Rattle.std.specs.Prelude.{◌≡◌, ◌<◌, ◌≤◌, ◌++◌, ◌∷◌, [], length, true, IfOk, OnOk};
 ghost use Rattle.aud_input.specs.Reader.{line_numbered};
 
-use aud_reader::Line;
+use aud_reader::{LentLine, Line, Lines};
 use std::alloc::{AllocError, Global};
 use std::marker::Model;
 
@@ -15,7 +15,7 @@ const MAX_BYTES: usize = 4_194_304;
 /// Lines that wait, in their order, until there are enough of them to be read together.
 #[derive(Drop)]
 pub struct Batch {
-    lines: Vec<Line>,
+    lines: Lines,
     bytes: usize,
 }
 
@@ -25,7 +25,7 @@ impl Model for Batch {
 
     ghost Value = { List Line };
 
-    ghost view = { λ s. s.lines.items };
+    ghost view = { λ s. s.lines };
 }
 
 impl Batch {
@@ -33,35 +33,34 @@ impl Batch {
         ensures { result ≡ [] }
     {
         Batch {
-            lines: Vec::new(alloc),
+            lines: Lines::new(alloc),
             bytes: 0,
         }
     }
 
-    pub fn push(&mut self, line: Line) -> Result<(), AllocError>
-        ensures { OnOk result (self.new ≡ self.old ++ line ∷ []) }
+    pub fn push(&mut self, line: &LentLine<'_>) -> Result<(), AllocError>
+        ensures { OnOk result (self.new ≡ self.old ++ line.now ∷ []) }
     {
-        self.bytes = self.bytes.saturating_add(line.bytes.as_slice().len());
-        self.lines.push(line)?;
-        Ok(())
+        self.bytes = self.bytes.saturating_add(line.bytes.len());
+        self.lines.push(line)
     }
 
-    pub fn lines(&self) -> &[Line]
+    pub fn lines(&self) -> &Lines
         ensures { result.now ≡ self.now }
     {
         &self.lines
     }
 
-    /// The line of this number, where it waits.
-    pub fn line(self, number: u64) -> Option<Line>
-        ensures { result ≡ line_numbered number self }
+    /// The line of this number, copied, where it waits.
+    pub fn line(&self, alloc: Global, number: u64) -> Result<Option<Line>, AllocError>
+        ensures { IfOk result (λ line. line ≡ line_numbered number self.now) }
     {
-        for line in self.lines {
+        for line in &self.lines.lent()? {
             if line.number == number {
-                return Some(line);
+                return Ok(Some(line.copied(alloc)?));
             }
         }
-        None
+        Ok(None)
     }
 
     /// Whether the lines are to wait no longer. For a single thread each line is enough.

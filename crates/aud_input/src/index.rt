@@ -7,7 +7,7 @@ ghost use Rattle.aud_input.specs.Private.Kept.{KeepsPlaces, place_in, so_far};
 
 use crate::name::name_of;
 use crate::tap_lines::{RecordLines, TapLines};
-use aud_reader::Line;
+use aud_reader::LentLine;
 use std::alloc::{AllocError, Global};
 use std::collections::HashMap;
 use std::hash::RandomState;
@@ -22,7 +22,8 @@ pub struct LineIndex {
     alloc: Global,
     taps: Vec<TapLines>,
     places: HashMap<String, usize, RandomState>,
-    /// The place of the tap of the last line that was noted, which is mostly that of the next one too.
+    /// The place of the tap of the last line that was noted. Where taps stand one after another it is mostly that of the
+    /// next one too.
     last: usize,
     lines: u64,
 }
@@ -95,7 +96,7 @@ impl LineIndex {
     }
 
     /// Notes the name of the next line.
-    fn note_line(&mut self, line: &Line) -> Result<(), AllocError>
+    fn note_line(&mut self, line: &LentLine<'_>) -> Result<(), AllocError>
         requires { KeepsPlaces self.old }
         ensures taps { OnOk result ((more : List NamedLine)
             → with_lines self.new.taps.items more
@@ -106,14 +107,14 @@ impl LineIndex {
         if line.number >= u64::from(u32::MAX) {
             return Ok(());
         }
-        match name_of(line.bytes.as_slice()) {
+        match name_of(line.bytes) {
             Some(name) => self.note(name, line.number as u32),
             None => Ok(()),
         }
     }
 
     /// Notes the next lines.
-    pub fn note_lines(&mut self, lines: &[Line]) -> Result<(), AllocError>
+    pub fn note_lines(&mut self, lines: &[LentLine<'_>]) -> Result<(), AllocError>
         requires { KeepsPlaces self.old }
         ensures noted { OnOk result (so_far self.new ≡ noted (so_far self.old) lines.now) }
         ensures keeps { OnOk result (KeepsPlaces self.new) }

@@ -7,7 +7,7 @@ ghost use Rattle.aud_input.specs.Reader.{AreAmong, Holds, line_numbered, parts_t
 
 use crate::batch::Batch;
 use crate::input::{Input, Layout};
-use aud_reader::{BundleReader, Line, ReadFault};
+use aud_reader::{BundleReader, LentLine, Line, ReadFault};
 use std::alloc::{AllocError, Global};
 use std::hash::RandomState;
 use std::marker::Model;
@@ -17,6 +17,7 @@ use std::thread::Threads;
 /// more than one thread those wait until there are enough to be read together.
 #[derive(Drop)]
 pub struct PartsReader {
+    alloc: Global,
     layout: Layout,
     taps: BundleReader,
     waiting: Batch,
@@ -39,12 +40,12 @@ fn opens_object(line: &[u8]) -> bool
 }
 
 /// Whether a line is a certificate.
-fn is_certificate(layout: Layout, line: &Line) -> bool
+fn is_certificate(layout: Layout, line: &LentLine<'_>) -> bool
     ensures { result ≡ is_certificate layout line.now }
 {
     match layout {
         Layout::Bundle => false,
-        Layout::BundleAndCertificates => opens_object(line.bytes.as_slice()),
+        Layout::BundleAndCertificates => opens_object(line.bytes),
     }
 }
 
@@ -56,6 +57,7 @@ impl PartsReader {
         ensures parts { (lines : List Line) → parts_to_come result lines ≡ parts_of layout lines }
     {
         PartsReader {
+            alloc,
             layout,
             taps: BundleReader::new(alloc, keys),
             waiting: Batch::new(alloc),
@@ -89,72 +91,63 @@ impl PartsReader {
     }
 
     /// Keeps the next line.
-    fn keep_line(&mut self, line: Line) -> Result<(), AllocError>
+    fn keep_line(&mut self, line: &LentLine<'_>) -> Result<(), AllocError>
         ensures going { self.new.taps ≡ self.old.taps }
         ensures parts { OnOk result ((more : List Line)
-            → parts_to_come self.new more ≡ parts_to_come self.old (line ∷ more)) }
-        ensures waits { OnOk result (AreAmong self.new.waiting (self.old.waiting ++ line ∷ [])) }
+            → parts_to_come self.new more ≡ parts_to_come self.old (line.now ∷ more)) }
+        ensures waits { OnOk result (AreAmong self.new.waiting
+            (self.old.waiting ++ line.now ∷ [])) }
     {
-        if is_certificate(self.layout, &line) {
-            self.certificates.push(line)?;
+        if is_certificate(self.layout, line) {
+            self.certificates.push(line.copied(self.alloc)?)?;
             Ok(())
         } else {
             self.waiting.push(line)
         }
     }
 
-    /// Reads the next line, or keeps it until there are enough to be read.
-    fn read_line<H: Threads + Sync>(
+    /// Keeps the next lines.
+    fn keep_lines(&mut self, lines: &[LentLine<'_>]) -> Result<(), AllocError>
+        ensures going { self.new.taps ≡ self.old.taps }
+        ensures parts { OnOk result ((more : List Line)
+            → parts_to_come self.new more ≡ parts_to_come self.old (lines.now ++ more)) }
+        ensures waits { OnOk result (AreAmong self.new.waiting (self.old.waiting ++ lines.now)) }
+    {
+        for line in lines {
+            self.keep_line(line)?;
+        }
+        Ok(())
+    }
+
+    /// Reads the next lines, up to the first that is refused, or keeps them until there are enough to be read.
+    pub fn read_lines<H: Threads + Sync>(
         &mut self,
         rt: &H,
         threads: usize,
-        line: Line,
+        lines: &[LentLine<'_>],
     ) -> Result<(), ReadFault>
         requires going { self.old.taps.fault ≡ None }
         ensures going { OnOk result (self.new.taps.fault ≡ None) }
         ensures parts { OnOk result ((more : List Line)
-            → parts_to_come self.new more ≡ parts_to_come self.old (line ∷ more)) }
+            → parts_to_come self.new more ≡ parts_to_come self.old (lines.now ++ more)) }
         ensures refused { IfErr result (λ e. e ≢ ReadFault.Memory → (more : List Line)
-            → parts_to_come self.old (line ∷ more) ≡ Err e) }
+            → parts_to_come self.old (lines.now ++ more) ≡ Err e) }
         ensures waits { result ≢ Err ReadFault.Memory
-            → AreAmong self.new.waiting (self.old.waiting ++ line ∷ []) }
+            → AreAmong self.new.waiting (self.old.waiting ++ lines.now) }
         ensures held { IfErr result (λ e. e ≢ ReadFault.Memory → Holds e self.new.waiting) }
     {
-        self.keep_line(line)?;
+        self.keep_lines(lines)?;
         if self.waiting.is_full(threads) {
             return self.read_waiting(rt, threads);
         }
         Ok(())
     }
 
-    /// Reads the next lines, up to the first that is refused. The last of them may wait to be read.
-    pub fn read_lines<H: Threads + Sync>(
-        &mut self,
-        rt: &H,
-        threads: usize,
-        lines: Vec<Line>,
-    ) -> Result<(), ReadFault>
-        requires going { self.old.taps.fault ≡ None }
-        ensures going { OnOk result (self.new.taps.fault ≡ None) }
-        ensures parts { OnOk result ((more : List Line)
-            → parts_to_come self.new more ≡ parts_to_come self.old (lines.items ++ more)) }
-        ensures refused { IfErr result (λ e. e ≢ ReadFault.Memory → (more : List Line)
-            → parts_to_come self.old (lines.items ++ more) ≡ Err e) }
-        ensures waits { result ≢ Err ReadFault.Memory
-            → AreAmong self.new.waiting (self.old.waiting ++ lines.items) }
-        ensures held { IfErr result (λ e. e ≢ ReadFault.Memory → Holds e self.new.waiting) }
+    /// The line of this number, copied, where it waits to be read.
+    pub fn waiting_line(&self, number: u64) -> Result<Option<Line>, AllocError>
+        ensures { IfOk result (λ line. line ≡ line_numbered number self.now.waiting) }
     {
-        for line in lines {
-            self.read_line(rt, threads, line)?;
-        }
-        Ok(())
-    }
-
-    /// The line of this number, where it waits to be read.
-    pub fn waiting_line(self, number: u64) -> Option<Line>
-        ensures { result ≡ line_numbered number self.waiting }
-    {
-        self.waiting.line(number)
+        self.waiting.line(self.alloc, number)
     }
 
     /// The taps and the certificates of the lines that were read.
@@ -166,6 +159,7 @@ impl PartsReader {
         ensures err { IfErr result (λ e. e ≡ ReadFault.Memory) }
     {
         let PartsReader {
+            alloc: _,
             layout: _,
             taps,
             waiting: _,

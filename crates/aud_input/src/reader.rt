@@ -6,7 +6,7 @@ ghost use Rattle.aud_input.specs.Files.{header_told, line_told};
 ghost use Rattle.aud_input.specs.Input.{input_of};
 ghost use Rattle.aud_input.specs.Private.Going.{AreGoing, fault_of, reader_of};
 ghost use Rattle.aud_input.specs.Private.Kept.{KeepsPlaces, so_far};
-ghost use Rattle.aud_input.specs.Reader.{HasLines, input_over, input_to_come, line_numbered, parts_to_come};
+ghost use Rattle.aud_input.specs.Reader.{AreAmong, HasLines, Holds, input_over, input_to_come, line_numbered, parts_to_come};
 ghost use Rattle.aud_input.specs.TapLines.{lines_noted, noted, taps_noted};
 
 use crate::index::LineIndex;
@@ -14,14 +14,14 @@ use crate::input::{Input, Layout};
 use crate::parts::PartsReader;
 use crate::refusal::header_of;
 use crate::tap_lines::RecordLines;
-use aud_reader::{InputCode, Line, ReadFault, Splitter};
+use aud_reader::{InputCode, LentLine, Line, Lines, ReadFault, Splitter};
 use aud_tap::Bytes;
 use std::alloc::{AllocError, Global};
 use std::hash::RandomState;
 use std::marker::Model;
 use std::thread::Threads;
 
-/// Reads an input that comes in pieces: for one thread each line once it is whole; for several the lines of the bundle
+/// Reads an input that comes in pieces: for one thread the lines that a piece ends; for several the lines of the bundle
 /// wait until there are 32,768 of them, or 4 MiB, and are read together.
 ///
 /// It keeps the line that has begun, the lines that wait, the certificates, and what the records of the other lines
@@ -48,7 +48,7 @@ impl Model for InputReader {
 }
 
 /// Notes the next lines, where an index is kept.
-fn note_lines(index: &mut Option<LineIndex>, lines: &[Line]) -> Result<(), AllocError>
+fn note_lines(index: &mut Option<LineIndex>, lines: &[LentLine<'_>]) -> Result<(), AllocError>
     requires { IfSome index.old KeepsPlaces }
     ensures noted { OnOk result (option_map so_far index.new
         ≡ option_map (λ s. noted s lines.now) (option_map so_far index.old)) }
@@ -58,6 +58,33 @@ fn note_lines(index: &mut Option<LineIndex>, lines: &[Line]) -> Result<(), Alloc
         Some(index) => index.note_lines(lines),
         None => Ok(()),
     }
+}
+
+/// Notes the next lines, and reads them, now or later.
+fn read_cut<H: Threads + Sync>(
+    rt: &H,
+    threads: usize,
+    parts: &mut PartsReader,
+    index: &mut Option<LineIndex>,
+    lines: &Lines,
+) -> Result<(), ReadFault>
+    requires going { parts.old.taps.fault ≡ None }
+    requires keeps { IfSome index.old KeepsPlaces }
+    ensures going { OnOk result (parts.new.taps.fault ≡ None) }
+    ensures keeps { OnOk result (IfSome index.new KeepsPlaces) }
+    ensures noted { result ≢ Err ReadFault.Memory → option_map so_far index.new
+        ≡ option_map (λ s. noted s lines.now) (option_map so_far index.old) }
+    ensures parts { OnOk result ((more : List Line)
+        → parts_to_come parts.new more ≡ parts_to_come parts.old (lines.now ++ more)) }
+    ensures refused { IfErr result (λ e. e ≢ ReadFault.Memory → (more : List Line)
+        → parts_to_come parts.old (lines.now ++ more) ≡ Err e) }
+    ensures waits { result ≢ Err ReadFault.Memory
+        → AreAmong parts.new.waiting (parts.old.waiting ++ lines.now) }
+    ensures held { IfErr result (λ e. e ≢ ReadFault.Memory → Holds e parts.new.waiting) }
+{
+    let lines = lines.lent()?;
+    note_lines(index, &lines)?;
+    parts.read_lines(rt, threads, &lines)
 }
 
 /// Cuts the next piece into lines, notes those that are whole, and reads them, now or later.
@@ -86,10 +113,8 @@ fn read_piece<H: Threads + Sync>(
     ensures number { splitter.new.number ≤ splitter.old.number + length piece.now }
 {
     let cut = splitter.feed(piece);
-    let lines = splitter.take();
-    note_lines(index, &lines)?;
-    match parts.read_lines(rt, threads, lines) {
-        Ok(()) => {}
+    match read_cut(rt, threads, parts, index, splitter.waiting()) {
+        Ok(()) => splitter.clear(),
         Err(fault) => return Err(fault),
     }
     match cut {
@@ -206,7 +231,7 @@ impl InputReader {
             return Err(fault);
         }
         let lines = this.splitter.finish()?;
-        this.parts.read_lines(rt, threads, lines)?;
+        read_cut(rt, threads, &mut this.parts, &mut this.index, &lines)?;
         this.parts.finish(rt, threads)
     }
 
@@ -273,9 +298,16 @@ impl InputReader {
 
     /// What is told of the line of this number, which is refused: its bytes, and the line of the header that stands
     /// already.
-    pub(crate) fn refused(self, alloc: Global, number: u64, code: InputCode) -> (Bytes, Option<u64>)
-        ensures line { result.0 ≡ line_told (line_numbered number self.parts.waiting) }
-        ensures header { result.1 ≡ header_told code (taps_noted self.index) result.0 }
+    pub(crate) fn refused(
+        self,
+        alloc: Global,
+        number: u64,
+        code: InputCode,
+    ) -> Result<(Bytes, Option<u64>), AllocError>
+        ensures line { IfOk result (λ told.
+            told.0 ≡ line_told (line_numbered number self.parts.waiting)) }
+        ensures header { IfOk result (λ told.
+            told.1 ≡ header_told code (taps_noted self.index) told.0) }
     {
         let InputReader {
             splitter: _,
@@ -283,9 +315,9 @@ impl InputReader {
             index,
             fault: _,
         } = self;
-        let line = line_told(alloc, parts.waiting_line(number));
+        let line = line_told(alloc, parts.waiting_line(number)?);
         let lines = record_lines(alloc, index);
         let header = header_of(&lines, code, line.as_slice());
-        (line, header)
+        Ok((line, header))
     }
 }

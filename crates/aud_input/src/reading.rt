@@ -231,19 +231,19 @@ fn refusal(
     counts: &[u64],
     number: u64,
     code: InputCode,
-) -> Refusal
+) -> Result<Refusal, AllocError>
     requires refused { reader.fault ≡ Some (ReadFault.Input number code) }
     ensures refused { (text : List ℕ) → IsRead text reader
-        → IsRefusedOf text counts.now (ReadingFault.Refused result) }
+        → IfOk result (λ told. IsRefusedOf text counts.now (ReadingFault.Refused told)) }
 {
-    let (line, header) = reader.refused(alloc, number, code);
-    Refusal {
+    let (line, header) = reader.refused(alloc, number, code)?;
+    Ok(Refusal {
         number,
         code,
         at: file_line(counts, number),
         line,
         header,
-    }
+    })
 }
 
 /// The recording at the end of the input, or its first refused line.
@@ -271,9 +271,10 @@ fn finish<H: Threads + Sync>(
     let mut reader = reader;
     match reader.read_waiting(rt, threads) {
         Ok(()) => recording(alloc, reader, bytes, counts),
-        Err(ReadFault::Input(number, code)) => Err(ReadingFault::Refused(refusal(
-            alloc, reader, &counts, number, code,
-        ))),
+        Err(ReadFault::Input(number, code)) => {
+            let told = refusal(alloc, reader, &counts, number, code)?;
+            Err(ReadingFault::Refused(told))
+        }
         Err(ReadFault::Memory) => Err(ReadingFault::Memory),
     }
 }

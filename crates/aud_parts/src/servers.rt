@@ -122,9 +122,9 @@ fn read_piece(
     ensures { IfOk result (HaveTheirOwnLines (header.now ∷ lines.now)) }
 {
     let mut reader = BundleReader::new(alloc, keys);
-    reader.line(header)?;
+    reader.line(&header.lent())?;
     for line in lines {
-        reader.line(line)?;
+        reader.line(&line.lent())?;
     }
     reader.finish()
 }

@@ -1,4 +1,5 @@
 pub mod LinesLemmas
+mod BoundsLemmas
 pub mod Fronts
 pub mod SessionLemmas
 pub mod Lists

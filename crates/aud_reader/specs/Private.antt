@@ -7,3 +7,4 @@ pub mod Texts
 pub mod Kept
 pub mod NewRecord
 pub mod OwnRecords
+pub mod Bounds

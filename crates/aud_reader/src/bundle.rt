@@ -20,7 +20,8 @@ ghost use Rattle.aud_reader.specs.OwnLines.{HaveTheirOwnLines, EachLineIsOfOneTa
 ghost use Rattle.aud_reader.specs.Private.OwnRecords.{AreOfLines, IsOfLine};
 
 use crate::fault::{LineFault, ReadFault, refuse};
-use crate::line::Line;
+use crate::line::LentLine;
+use crate::lines::Lines;
 use aud_base::TextPool;
 use aud_json::Scratch;
 use aud_tap::{Rec, Taps};
@@ -80,7 +81,7 @@ impl BundleReader {
 
     /// Reads the next line. A line without bytes is passed over. A line is refused by its own number, and the first of
     /// the reasons that docs/FORMAT.md lists, in the light of the lines before it.
-    pub fn line(&mut self, line: &Line) -> Result<(), ReadFault>
+    pub fn line(&mut self, line: &LentLine<'_>) -> Result<(), ReadFault>
         ensures value { result ≡ result_of self.new.fault }
         ensures taps { (more : List Line) → result ≢ Err ReadFault.Memory
             → taps_to_come self.new more ≡ taps_to_come self.old (line.now ∷ more) }
@@ -90,13 +91,12 @@ impl BundleReader {
         if let Some(fault) = self.fault {
             return Err(fault);
         }
-        let bytes = line.bytes.as_slice();
-        if bytes.is_empty() {
+        if line.bytes.is_empty() {
             return Ok(());
         }
         match self
             .taps
-            .read_line(&mut self.pool, &mut self.scratch, bytes)
+            .read_line(&mut self.pool, &mut self.scratch, line.bytes)
         {
             Ok(()) => Ok(()),
             Err(LineFault::Code(code)) => {
@@ -115,7 +115,7 @@ impl BundleReader {
         &mut self,
         rt: &H,
         threads: usize,
-        lines: &[Line],
+        lines: &Lines,
     ) -> Result<(), ReadFault>
         ensures value { result ≡ result_of self.new.fault }
         ensures taps { (more : List Line) → result ≢ Err ReadFault.Memory
@@ -126,14 +126,17 @@ impl BundleReader {
         if let Some(fault) = self.fault {
             return Err(fault);
         }
+        let Ok(lines) = lines.lent() else {
+            return refuse(&mut self.fault, ReadFault::Memory);
+        };
         if threads < 2 {
-            return self.each_line(lines);
+            return self.each_line(&lines);
         }
-        self.lines_in_parts(rt, threads, lines)
+        self.lines_in_parts(rt, threads, &lines)
     }
 
     /// Reads the next lines, one after the other.
-    fn each_line(&mut self, lines: &[Line]) -> Result<(), ReadFault>
+    fn each_line(&mut self, lines: &[LentLine<'_>]) -> Result<(), ReadFault>
         requires { self.old.fault ≡ None }
         ensures value { result ≡ result_of self.new.fault }
         ensures taps { (more : List Line) → result ≢ Err ReadFault.Memory
@@ -150,7 +153,7 @@ impl BundleReader {
         &mut self,
         rt: &H,
         threads: usize,
-        lines: &[Line],
+        lines: &[LentLine<'_>],
     ) -> Result<(), ReadFault>
         requires { self.old.fault ≡ None }
         ensures value { result ≡ result_of self.new.fault }
@@ -168,7 +171,7 @@ impl BundleReader {
     }
 
     /// Adds the records of all parts, in their order.
-    fn join(&mut self, parts: &[&[Line]], own: Vec<Vec<OwnRecord>>) -> Result<(), ReadFault>
+    fn join(&mut self, parts: &[&[LentLine<'_>]], own: Vec<Vec<OwnRecord>>) -> Result<(), ReadFault>
         requires open { self.old.fault ≡ None }
         requires own { AllZip (λ part records.
             AreOfLines self.old.taps part.now records.items) parts.now own.items }
@@ -186,7 +189,7 @@ impl BundleReader {
     }
 
     /// Adds the records of a part's lines, in their order.
-    fn join_part(&mut self, lines: &[Line], own: Vec<OwnRecord>) -> Result<(), ReadFault>
+    fn join_part(&mut self, lines: &[LentLine<'_>], own: Vec<OwnRecord>) -> Result<(), ReadFault>
         requires open { self.old.fault ≡ None }
         requires own { AreOfLines self.old.taps lines.now own.items }
         ensures value { result ≡ result_of self.new.fault }
@@ -202,7 +205,7 @@ impl BundleReader {
     }
 
     /// Reads the next line, whose record is added where it is known and the tap is there.
-    fn parsed_line(&mut self, line: &Line, own: OwnRecord) -> Result<(), ReadFault>
+    fn parsed_line(&mut self, line: &LentLine<'_>, own: OwnRecord) -> Result<(), ReadFault>
         requires open { self.old.fault ≡ None }
         requires own { IsOfLine self.old.taps line.now own }
         ensures value { result ≡ result_of self.new.fault }
@@ -220,7 +223,7 @@ impl BundleReader {
     }
 
     /// Adds the record of the next line to the tap at this place, which is the line's.
-    fn add_record(&mut self, line: &Line, place: usize, rec: Rec) -> Result<(), ReadFault>
+    fn add_record(&mut self, line: &LentLine<'_>, place: usize, rec: Rec) -> Result<(), ReadFault>
         requires open { self.old.fault ≡ None }
         requires own { IsOfLine self.old.taps line.now (Placed place rec) }
         ensures value { result ≡ result_of self.new.fault }
@@ -262,7 +265,7 @@ impl BundleReader {
 ///
 /// Each line is judged by the taps of the lines before it. Lines without bytes are passed over. The lines are borrowed
 /// for the call alone. Texts are found again by their hashes under these keys.
-pub fn read_bundle(alloc: Global, keys: RandomState, lines: &[Line]) -> Result<Taps, ReadFault>
+pub fn read_bundle(alloc: Global, keys: RandomState, lines: &Lines) -> Result<Taps, ReadFault>
     ensures read { IfOk result (λ taps. taps_of lines.now ≡ Ok taps) }
     ensures names { IfOk result (λ taps. AreNamedOnce taps) }
     ensures stream { IfOk result (λ taps. HasOneStreamAtMost taps) }
@@ -272,7 +275,7 @@ pub fn read_bundle(alloc: Global, keys: RandomState, lines: &[Line]) -> Result<T
     ensures refused { IfErr result (λ e. e ≢ ReadFault.Memory → taps_of lines.now ≡ Err e) }
 {
     let mut reader = BundleReader::new(alloc, keys);
-    for line in lines {
+    for line in &lines.lent()? {
         reader.line(line)?;
     }
     reader.finish()

@@ -23,12 +23,14 @@ mod bundle;
 mod fault;
 mod law;
 mod line;
+mod lines;
 mod read;
 mod splitter;
 
 pub use bundle::{BundleReader, read_bundle};
 pub use fault::{InputCode, ReadFault};
 pub use law::lines_in_any_pieces;
-pub use line::Line;
+pub use line::{LentLine, Line};
+pub use lines::Lines;
 pub use read::parse_line;
 pub use splitter::{Splitter, next_line};

@@ -1,11 +1,11 @@
 //! The lines of an input that comes in pieces.
 ghost use Rattle.std.specs.Prelude.{◌≡◌, ◌+◌, ◌-◌, ◌^◌, ◌<◌, ◌≤◌, ◌++◌, [], ◌∷◌, List, ℕ, length, take, Some, None, Ok, Err, IfOk, IfErr, OnOk, IfSome, IfNone, false, ◌≢◌};
 ghost use Rattle.aud_reader.specs.Lines.{IsFront, lines_of, lines_to_come, without_return, has_newline, IsPartial, line_at, result_of};
-ghost use Rattle.aud_reader.specs.Private.SplitterSteps.{line_ended, line_begun};
+ghost use Rattle.aud_reader.specs.Private.SplitterSteps.{answer_of, line_begun, line_ended, lines_with};
 
 use crate::fault::{InputCode, ReadFault, refuse};
-use crate::line::Line;
-use aud_tap::Bytes;
+use crate::line::LentLine;
+use crate::lines::Lines;
 use aud_tap::limits::MAX_LINE;
 use memchr::memchr;
 use std::alloc::Global;
@@ -20,7 +20,7 @@ use std::mem;
 #[derive(Drop)]
 pub struct Splitter {
     alloc: Global,
-    waiting: Vec<Line>,
+    waiting: Lines,
     number: u64,
     rest: Vec<u8>,
     fault: Option<ReadFault>,
@@ -32,7 +32,7 @@ impl Model for Splitter {
 
     ghost Value = { Split };
 
-    ghost view = { λ s. record { waiting = s.waiting.items; number = s.number; rest = s.rest.items; fault = s.fault } };
+    ghost view = { λ s. record { waiting = s.waiting; number = s.number; rest = s.rest.items; fault = s.fault } };
 
     ghost invariant = { λ s. s.fault ≡ None → IsPartial s.rest.items };
 }
@@ -59,20 +59,39 @@ pub fn next_line(text: &[u8]) -> Option<(&[u8], &[u8])>
     Some((&text[..i], &text[i + 1..]))
 }
 
-/// The line of a number, or its refusal.
-fn whole_line(number: u64, text: Vec<u8>) -> Result<Line, ReadFault>
-    ensures { result ≡ line_at number text.items }
+/// Keeps the line of a number after the others, or refuses it.
+fn keep_line(lines: &mut Lines, number: u64, text: &[u8]) -> Result<(), ReadFault>
+    ensures lines { result ≢ Err ReadFault.Memory
+        → lines.new ≡ lines_with lines.old (line_at number text.now) }
+    ensures value { result ≢ Err ReadFault.Memory → result ≡ answer_of (line_at number text.now) }
+    ensures kept { IfErr result (λ _. lines.new ≡ lines.old) }
 {
-    let mut bytes = text;
-    let length = strip_return(&bytes).len();
-    if length > MAX_LINE {
+    let bytes = strip_return(text);
+    if bytes.len() > MAX_LINE {
         return Err(ReadFault::Input(number, InputCode::LineTooLong));
     }
-    bytes.truncate(length);
-    Ok(Line {
-        number,
-        bytes: Bytes::new(bytes),
-    })
+    lines.push(&LentLine { number, bytes })?;
+    Ok(())
+}
+
+/// Keeps the line of a number, of which the rest has the front and these bytes are what follows.
+fn keep_ended(
+    lines: &mut Lines,
+    number: u64,
+    rest: &mut Vec<u8>,
+    front: &[u8],
+) -> Result<(), ReadFault>
+    ensures lines { result ≢ Err ReadFault.Memory
+        → lines.new ≡ lines_with lines.old (line_at number (rest.old.items ++ front.now)) }
+    ensures value { result ≢ Err ReadFault.Memory
+        → result ≡ answer_of (line_at number (rest.old.items ++ front.now)) }
+    ensures kept { IfErr result (λ _. lines.new ≡ lines.old) }
+{
+    if rest.is_empty() {
+        return keep_line(lines, number, front);
+    }
+    rest.extend_from_slice(front)?;
+    keep_line(lines, number, rest)
 }
 
 impl Splitter {
@@ -85,7 +104,7 @@ impl Splitter {
     {
         Splitter {
             alloc,
-            waiting: Vec::new(alloc),
+            waiting: Lines::new(alloc),
             number: 1,
             rest: Vec::new(alloc),
             fault: None,
@@ -93,12 +112,26 @@ impl Splitter {
     }
 
     /// Hands out the whole lines that stand and weren't handed out yet; after a refusal too.
-    pub fn take(&mut self) -> Vec<Line>
-        ensures lines { result.items ≡ self.old.waiting }
+    pub fn take(&mut self) -> Lines
+        ensures lines { result ≡ self.old.waiting }
         ensures left { self.new ≡ record self.old { waiting = [] } }
     {
-        let empty = Vec::new(self.alloc);
+        let empty = Lines::new(self.alloc);
         mem::replace(&mut self.waiting, empty)
+    }
+
+    /// The whole lines that stand and weren't handed out yet, borrowed; after a refusal too.
+    pub fn waiting(&self) -> &Lines
+        ensures { result.now ≡ self.now.waiting }
+    {
+        &self.waiting
+    }
+
+    /// Lets the whole lines that stand go, as if they were handed out. Their room is kept for the next ones.
+    pub fn clear(&mut self)
+        ensures { self.new ≡ record self.old { waiting = [] } }
+    {
+        self.waiting.clear();
     }
 
     /// Ends the line that has begun: these bytes are the last of it.
@@ -110,16 +143,10 @@ impl Splitter {
         ensures number { self.new.number ≤ self.old.number + 1 }
         ensures kept { IfErr result (λ _. self.new.waiting ≡ self.old.waiting) }
     {
-        let Ok(()) = self.rest.extend_from_slice(front) else {
-            return refuse(&mut self.fault, ReadFault::Memory);
-        };
-        let empty = Vec::new(self.alloc);
-        let text = mem::replace(&mut self.rest, empty);
-        match whole_line(self.number, text) {
-            Ok(line) => {
-                let Ok(()) = self.waiting.push(line) else {
-                    return refuse(&mut self.fault, ReadFault::Memory);
-                };
+        let kept = keep_ended(&mut self.waiting, self.number, &mut self.rest, front);
+        self.rest.clear();
+        match kept {
+            Ok(()) => {
                 self.number += 1;
                 Ok(())
             }
@@ -181,10 +208,10 @@ impl Splitter {
     /// Ends the input: the lines that weren't handed out yet, with what came after the last newline.
     ///
     /// It refuses where an earlier piece was refused, and when out of memory.
-    pub fn finish(self) -> Result<Vec<Line>, ReadFault>
+    pub fn finish(self) -> Result<Lines, ReadFault>
         requires { self.number < 2 ^ 64 - 1 }
         ensures ok { IfOk result (λ ls. lines_to_come self []
-            ≡ record { lines = ls.items; fault = None }) }
+            ≡ record { lines = ls; fault = None }) }
         ensures err { IfErr result (λ e. e ≢ ReadFault.Memory → self.fault ≡ Some e) }
         ensures refused { IfSome self.fault (λ fault. result ≡ Err fault) }
     {

@@ -3,8 +3,8 @@ ghost use Rattle.std.specs.Prelude.{IfOk};
 ghost use Rattle.aud_tap.specs.Names.{AreNamedOnce};
 
 use anyhow::Result;
-use aud_reader::{Line, read_bundle};
-use aud_tap::{Bytes, Taps};
+use aud_reader::{LentLine, Lines, read_bundle};
+use aud_tap::Taps;
 use std::alloc::{AllocError, Global};
 use std::hash::RandomState;
 
@@ -51,18 +51,18 @@ pub const CERTIFICATE: &str =
     r#"{"client":"c1","pid":"P","spans":[["r",1,2],["s1",1,2]],"turns":[["a",1,6,0,1],["b",3,4,2,2]]}"#;
 
 /// The lines of the bundle.
-pub fn lines(alloc: Global) -> Result<Vec<Line>, AllocError> {
-    let mut lines = Vec::new(alloc);
+pub fn lines(alloc: Global) -> Result<Lines, AllocError> {
+    let mut lines = Lines::new(alloc);
     for text in BUNDLE.lines() {
         let number = lines.len() as u64 + 1;
-        let bytes = Bytes::new(text.as_bytes().to_vec(alloc)?);
-        lines.push(Line { number, bytes })?;
+        let bytes = text.as_bytes();
+        lines.push(&LentLine { number, bytes })?;
     }
     Ok(lines)
 }
 
 /// The taps of these lines.
-pub fn taps(alloc: Global, keys: RandomState, lines: &[Line]) -> Result<Taps>
+pub fn taps(alloc: Global, keys: RandomState, lines: &Lines) -> Result<Taps>
     ensures { IfOk result (λ taps. AreNamedOnce taps) }
 {
     let taps = read_bundle(alloc, keys, lines)?;

@@ -11,7 +11,7 @@ use crate::taps::OnTaps;
 use crate::workers::OnWorkers;
 use crate::{certificates, desk, lines, logs, rooms, taps, workers};
 use aud_client::Recording;
-use aud_reader::Line;
+use aud_reader::Lines;
 use aud_tap::Taps;
 use std::alloc::Global;
 use std::hash::RandomState;
@@ -82,7 +82,7 @@ pub fn given<R: Threads + Wait + Clock + Sync>(
     rt: &R,
     alloc: Global,
     keys: RandomState,
-    lines: &[Line],
+    lines: &Lines,
     pids: &[String],
     call: &Call,
 ) -> Given

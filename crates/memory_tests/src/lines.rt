@@ -4,7 +4,7 @@ ghost use Rattle.std.specs.Prelude.{◌≡◌, ◌≤◌, ◌^◌};
 use crate::counted::{begin, end};
 use crate::given::{Given, memory_if};
 use aud_eio::Eio;
-use aud_reader::{BundleReader, Line, ReadFault, Splitter};
+use aud_reader::{BundleReader, LentLine, Lines, ReadFault, Splitter};
 use aud_sio::{Assembler, SioFault};
 use std::alloc::Global;
 use std::hash::RandomState;
@@ -18,7 +18,7 @@ pub enum Fed {
 }
 
 /// Feeds it.
-pub fn given(lines: &[Line], alloc: Global, keys: RandomState, fed: &Fed) -> Given {
+pub fn given(lines: &Lines, alloc: Global, keys: RandomState, fed: &Fed) -> Given {
     match fed {
         Fed::Splitter => split(alloc),
         Fed::Reader => read(lines, alloc, keys),
@@ -53,22 +53,25 @@ fn split(alloc: Global) -> Given {
 }
 
 /// Reads the lines in turn, up to the first that is refused.
-fn read_lines(reader: &mut BundleReader, lines: &[Line]) -> Result<(), ReadFault> {
+fn read_lines(reader: &mut BundleReader, lines: &[LentLine<'_>]) -> Result<(), ReadFault> {
     for line in lines {
         reader.line(line)?;
     }
     Ok(())
 }
 
-fn read(lines: &[Line], alloc: Global, keys: RandomState) -> Given {
+fn read(lines: &Lines, alloc: Global, keys: RandomState) -> Given {
+    let Ok(lines) = lines.lent() else {
+        return Given::Wrong("the lines are not lent");
+    };
     let mut reader = BundleReader::new(alloc, keys);
     begin(alloc);
-    let read = read_lines(&mut reader, lines);
+    let read = read_lines(&mut reader, &lines);
     end(alloc);
     let again = if read.is_ok() {
         Ok(())
     } else {
-        read_lines(&mut reader, lines)
+        read_lines(&mut reader, &lines)
     };
     let finished = ManuallyDrop::new(reader.finish());
     match (read, again, &*finished) {

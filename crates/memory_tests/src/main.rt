@@ -25,7 +25,7 @@ use crate::calls::{CALLS, given};
 use anyhow::Result;
 use aud_client::Recording;
 use aud_maker::sessions;
-use aud_reader::Line;
+use aud_reader::Lines;
 use aud_tap::Taps;
 use std::alloc::Global;
 use std::env;
@@ -51,7 +51,7 @@ fn make_calls<R: Print + Threads + Wait + Clock + Sync>(
     rt: &R,
     alloc: Global,
     keys: RandomState,
-    lines: &[Line],
+    lines: &Lines,
     words: &[String],
 ) -> Result<()>
     requires { AreNamedOnce taps.now }

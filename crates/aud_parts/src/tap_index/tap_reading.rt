@@ -47,7 +47,7 @@ fn read_line(reader: &mut BundleReader, line: &Line) -> Result<(), RunFault>
     ensures { (more : List Line) → OnOk result
         (taps_to_come reader.new more ≡ taps_to_come reader.old (line.now ∷ more)) }
 {
-    match reader.line(line) {
+    match reader.line(&line.lent()) {
         Ok(()) => Ok(()),
         Err(ReadFault::Input(_, _)) => Ok(()),
         Err(ReadFault::Memory) => Err(RunFault::Memory),

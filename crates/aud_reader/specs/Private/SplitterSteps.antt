@@ -6,6 +6,16 @@ use Rattle.aud_reader.specs.declared.fault.ReadFault.TheVariants.{Input}
 use Rattle.aud_reader.specs.declared.fault.InputCode.TheVariants.{LineTooLong}
 use Rattle.aud_reader.specs.Lines.{is_too_long, line_at, Split}
 
+-- the lines with one more, unless it is refused
+abbrev pub lines_with : List Line → Result Line ReadFault → List Line
+lines_with lines (Ok line) = lines ++ line ∷ []
+lines_with lines (Err f) = lines
+
+-- the answer to one more line
+abbrev pub answer_of : Result Line ReadFault → Result (Unit {0}) ReadFault
+answer_of (Ok line) = Ok tt
+answer_of (Err f) = Err f
+
 -- a splitter after a line, or its refusal
 abbrev pub splitter_with_line : Split → Result Line ReadFault → Split
 splitter_with_line s (Ok line) = record { waiting = s.waiting ++ line ∷ []; number = s.number + 1; rest = []; fault = None }

@@ -10,7 +10,7 @@ ghost use Rattle.aud_reader.specs.SoFar.{taps_so_far};
 
 use super::open_taps::OpenTaps;
 use crate::fault::LineFault;
-use crate::line::Line;
+use crate::line::LentLine;
 use crate::read::line::opened_line;
 use crate::read::record::value_record;
 use aud_base::{TextPool, try_map};
@@ -82,12 +82,12 @@ fn own_record(
     taps: &OpenTaps,
     pool: &mut TextPool,
     scratch: &mut Scratch,
-    line: &Line,
+    line: &LentLine<'_>,
 ) -> Result<OwnRecord, AllocError>
     requires { KeepsTaps taps.now }
     ensures { IfOk result (IsOfLine (taps_so_far taps.now) line.now) }
 {
-    match opened_record(alloc, taps, pool, scratch, line.bytes.as_slice()) {
+    match opened_record(alloc, taps, pool, scratch, line.bytes) {
         Ok(own) => Ok(own),
         Err(LineFault::Code(_)) => Ok(OwnRecord::NoRecord),
         Err(LineFault::Memory) => Err(AllocError),
@@ -112,7 +112,7 @@ fn own_records(
     alloc: Global,
     keys: RandomState,
     taps: &OpenTaps,
-    lines: &[Line],
+    lines: &[LentLine<'_>],
 ) -> Result<Vec<OwnRecord>, AllocError>
     requires { KeepsTaps taps.now }
     ensures { IfOk result (λ own. AreOfLines (taps_so_far taps.now) lines.now own.items) }
@@ -129,7 +129,10 @@ fn own_records(
 }
 
 /// The lines in parts, in their order.
-pub fn parts_of<'a>(alloc: Global, lines: &'a [Line]) -> Result<Vec<&'a [Line]>, AllocError>
+pub fn parts_of<'p, 'a>(
+    alloc: Global,
+    lines: &'p [LentLine<'a>],
+) -> Result<Vec<&'p [LentLine<'a>]>, AllocError>
     ensures { IfOk result (λ parts. flat_map (λ part. part.now) parts.items ≡ lines.now) }
 {
     let mut parts = Vec::new(alloc);
@@ -146,7 +149,7 @@ pub fn own_records_of<H: Threads + Sync>(
     keys: RandomState,
     threads: usize,
     taps: &OpenTaps,
-    parts: &[&[Line]],
+    parts: &[&[LentLine<'_>]],
 ) -> Result<Vec<Vec<OwnRecord>>, AllocError>
     requires { KeepsTaps taps.now }
     ensures { IfOk result (λ own. AllZip
@@ -158,7 +161,7 @@ pub fn own_records_of<H: Threads + Sync>(
         alloc,
         threads,
         parts,
-        |part: &&[Line]| -> Result<Vec<OwnRecord>, AllocError>
+        |part: &&[LentLine<'_>]| -> Result<Vec<OwnRecord>, AllocError>
             requires { KeepsTaps taps.now }
             ensures { IfOk result (λ own. AreOfLines
                 (taps_so_far taps.entry.now) part.now.now own.items) }

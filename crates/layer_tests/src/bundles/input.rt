@@ -1,5 +1,5 @@
 //! Lines for the examples.
-use aud_reader::{Line, ReadFault, parse_line};
+use aud_reader::{Line, Lines, ReadFault, parse_line};
 use aud_tap::{Bytes, Rec};
 use std::alloc::{AllocError, Global};
 use std::hash::RandomState;
@@ -25,11 +25,12 @@ pub fn read(
 }
 
 /// Whether the lines have these texts, and are numbered from 1.
-pub fn are(lines: &[Line], texts: &[&str]) -> bool {
+pub fn are(lines: &Lines, texts: &[&str]) -> Result<bool, AllocError> {
+    let lines = lines.lent()?;
     for (i, (line, text)) in lines.iter().zip(texts.iter()).enumerate() {
-        if line.number != i as u64 + 1 || line.bytes.as_slice() != text.as_bytes() {
-            return false;
+        if line.number != i as u64 + 1 || line.bytes != text.as_bytes() {
+            return Ok(false);
         }
     }
-    lines.len() == texts.len()
+    Ok(lines.len() == texts.len())
 }

@@ -1,31 +1,40 @@
 //! The lines of an input that comes in pieces.
-ghost use Rattle.std.specs.Prelude.{◌≡◌, ◌+◌, ◌≤◌, ◌^◌, ◌<◌, length, None, IfOk};
+ghost use Rattle.std.specs.Prelude.{◌≡◌, ◌+◌, ◌≤◌, ◌^◌, ◌<◌, ◌++◌, length, None, IfOk, OnOk};
 ghost use Rattle.aud_reader.specs.Lines.{lines_of};
 
 use crate::bundles::input::are;
-use aud_reader::{InputCode, Line, ReadFault, Splitter, next_line};
+use aud_reader::{InputCode, Lines, ReadFault, Splitter, next_line};
 use std::alloc::{AllocError, Global};
 
+/// Puts lines after others.
+fn append(lines: &mut Lines, others: &Lines) -> Result<(), AllocError>
+    ensures { OnOk result (lines.new ≡ lines.old ++ others.now) }
+{
+    for line in &others.lent()? {
+        lines.push(line)?;
+    }
+    Ok(())
+}
+
 /// The lines of an input of which each byte is a piece, where every line is taken at once.
-fn lines_of_bytes(alloc: Global, input: &[u8]) -> Result<Vec<Line>, ReadFault>
+fn lines_of_bytes(alloc: Global, input: &[u8]) -> Result<Lines, ReadFault>
     ensures { IfOk result (λ lines. lines_of input.now
-        ≡ record { lines = lines.items; fault = None }) }
+        ≡ record { lines = lines; fault = None }) }
 {
     let mut splitter = Splitter::new(alloc);
-    let mut lines = Vec::new(alloc);
+    let mut lines = Lines::new(alloc);
     for byte in input {
         splitter.feed(&[*byte])?;
-        lines.append(&mut splitter.take())?;
+        append(&mut lines, &splitter.take())?;
     }
-    let mut last = splitter.finish()?;
-    lines.append(&mut last)?;
+    append(&mut lines, &splitter.finish()?)?;
     Ok(lines)
 }
 
 /// Whether an input has these lines.
 fn splits(alloc: Global, input: &str, wanted: &[&str]) -> bool {
     match lines_of_bytes(alloc, input.as_bytes()) {
-        Ok(lines) => are(&lines, wanted),
+        Ok(lines) => are(&lines, wanted).unwrap_or(false),
         Err(_) => false,
     }
 }

@@ -1,6 +1,6 @@
 //! The taps of lines.
-use crate::bundles::input::{are, line_of};
-use aud_reader::{InputCode, Line, ReadFault, Splitter, read_bundle};
+use crate::bundles::input::are;
+use aud_reader::{InputCode, LentLine, Lines, ReadFault, Splitter, read_bundle};
 use aud_tap::{Records, Tap};
 use std::alloc::{AllocError, Global};
 use std::hash::RandomState;
@@ -43,7 +43,7 @@ fn are_counted(taps: &[Tap], wanted: &[(&str, usize)]) -> bool {
 }
 
 /// Whether the lines have these taps, or are refused so.
-fn gives(alloc: Global, keys: RandomState, lines: &[Line], wanted: Outcome) -> bool {
+fn gives(alloc: Global, keys: RandomState, lines: &Lines, wanted: Outcome) -> bool {
     match read_bundle(alloc, keys, lines) {
         Ok(taps) => match wanted {
             Ok(wanted) => are_counted(taps.as_slice(), wanted),
@@ -54,16 +54,18 @@ fn gives(alloc: Global, keys: RandomState, lines: &[Line], wanted: Outcome) -> b
 }
 
 /// Adds the line of this number with this text.
-fn add(alloc: Global, lines: &mut Vec<Line>, number: u64, text: &str) -> Result<(), AllocError> {
-    let line = line_of(alloc, number, text.as_bytes())?;
-    Ok(lines.push(line)?)
+fn add(lines: &mut Lines, number: u64, text: &str) -> Result<(), AllocError> {
+    lines.push(&LentLine {
+        number,
+        bytes: text.as_bytes(),
+    })
 }
 
 /// The lines with these texts.
-fn lines_of(alloc: Global, texts: &[&str]) -> Result<Vec<Line>, AllocError> {
-    let mut lines = Vec::new(alloc);
+fn lines_of(alloc: Global, texts: &[&str]) -> Result<Lines, AllocError> {
+    let mut lines = Lines::new(alloc);
     for (i, text) in texts.iter().enumerate() {
-        add(alloc, &mut lines, i as u64 + 1, text)?;
+        add(&mut lines, i as u64 + 1, text)?;
     }
     Ok(lines)
 }
@@ -76,7 +78,7 @@ fn session_gives(
     wanted: Outcome,
 ) -> Result<bool, AllocError> {
     let mut lines = lines_of(alloc, &SESSION)?;
-    add(alloc, &mut lines, 12, text)?;
+    add(&mut lines, 12, text)?;
     Ok(gives(alloc, keys, &lines, wanted))
 }
 
@@ -166,8 +168,8 @@ static ALTERED: [(&[(usize, &str)], Outcome); 5] = [
 ];
 
 /// The session with these lines in the place of those of their numbers, which count from 1.
-fn altered(alloc: Global, others: &[(usize, &str)]) -> Result<Vec<Line>, AllocError> {
-    let mut lines = Vec::new(alloc);
+fn altered(alloc: Global, others: &[(usize, &str)]) -> Result<Lines, AllocError> {
+    let mut lines = Lines::new(alloc);
     for (i, text) in SESSION.iter().enumerate() {
         let mut text = *text;
         for (number, other) in others {
@@ -175,7 +177,7 @@ fn altered(alloc: Global, others: &[(usize, &str)]) -> Result<Vec<Line>, AllocEr
                 text = *other;
             }
         }
-        add(alloc, &mut lines, i as u64 + 1, text)?;
+        add(&mut lines, i as u64 + 1, text)?;
     }
     Ok(lines)
 }
@@ -221,7 +223,7 @@ fn windows_session(alloc: Global) -> Result<Vec<u8>, AllocError> {
 }
 
 /// The lines of an input that is one piece.
-fn lines_of_piece(alloc: Global, input: &[u8]) -> Result<Vec<Line>, ReadFault> {
+fn lines_of_piece(alloc: Global, input: &[u8]) -> Result<Lines, ReadFault> {
     let mut splitter = Splitter::new(alloc);
     splitter.feed(input)?;
     splitter.finish()
@@ -231,7 +233,7 @@ fn lines_of_piece(alloc: Global, input: &[u8]) -> Result<Vec<Line>, ReadFault> {
 fn is_session(alloc: Global, keys: RandomState, input: &[u8]) -> bool {
     match lines_of_piece(alloc, input) {
         Ok(lines) => {
-            are(&lines, &SESSION)
+            are(&lines, &SESSION).unwrap_or(false)
                 && gives(alloc, keys, &lines, Ok(&[("st", 1), ("a", 4), ("c1", 3)]))
         }
         Err(_) => false,

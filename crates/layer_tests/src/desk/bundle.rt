@@ -3,8 +3,8 @@
 ghost use Rattle.std.specs.Prelude.{IfOk};
 ghost use Rattle.aud_tap.specs.Names.{AreNamedOnce};
 
-use aud_reader::{Line, read_bundle};
-use aud_tap::{Bytes, Taps};
+use aud_reader::{LentLine, Lines, read_bundle};
+use aud_tap::Taps;
 use std::alloc::{AllocError, Global};
 use std::hash::RandomState;
 use std::test::Fail;
@@ -58,24 +58,20 @@ pub fn lines_of(name: &str) -> &'static [&'static [u8]] {
 pub type Part = (&'static str, &'static [&'static [u8]]);
 
 /// Appends a line of the tap of this name.
-fn push_line(
-    alloc: Global,
-    lines: &mut Vec<Line>,
-    name: &str,
-    json: &[u8],
-) -> Result<(), AllocError> {
+fn push_line(alloc: Global, lines: &mut Lines, name: &str, json: &[u8]) -> Result<(), AllocError> {
     let number = lines.len() as u64 + 1;
     let mut bytes = name.as_bytes().to_vec(alloc)?;
     bytes.push(b' ')?;
     bytes.extend_from_slice(json)?;
-    let bytes = Bytes::new(bytes);
-    lines.push(Line { number, bytes })?;
-    Ok(())
+    lines.push(&LentLine {
+        number,
+        bytes: &bytes,
+    })
 }
 
 /// The first lines of these parts, so many at most.
-fn first_lines(alloc: Global, parts: &[Part], most: usize) -> Result<Vec<Line>, AllocError> {
-    let mut lines = Vec::new(alloc);
+fn first_lines(alloc: Global, parts: &[Part], most: usize) -> Result<Lines, AllocError> {
+    let mut lines = Lines::new(alloc);
     for (name, texts) in parts {
         for json in *texts {
             if lines.len() < most {
@@ -91,6 +87,6 @@ pub fn taps_of(alloc: Global, keys: RandomState, parts: &[Part], most: usize) ->
     ensures { IfOk result (λ taps. AreNamedOnce taps) }
 {
     let lines = first_lines(alloc, parts, most)?;
-    let taps = read_bundle(alloc, keys, lines.as_slice())?;
+    let taps = read_bundle(alloc, keys, &lines)?;
     Ok(taps)
 }

@@ -36,8 +36,8 @@ use crate::judgement::{
     certificates, clients, node_logs, orders, packets, rooms, runs, stream, turns,
 };
 use aud_client::Recording;
-use aud_reader::{Line, read_bundle};
-use aud_tap::{Bytes, Taps};
+use aud_reader::{LentLine, Lines, read_bundle};
+use aud_tap::Taps;
 use std::alloc::{AllocError, Global};
 use std::hash::RandomState;
 use std::process::Abort;
@@ -185,7 +185,7 @@ fn taps_of(alloc: Global, keys: RandomState, parts: &[&str], bundle: &str) -> Re
     expand(parts, bundle, &mut out);
     let text = out.finish()?;
     let lines = lines_of(alloc, &text)?;
-    let taps = read_bundle(alloc, keys, lines.as_slice())?;
+    let taps = read_bundle(alloc, keys, &lines)?;
     Ok(taps)
 }
 
@@ -207,12 +207,12 @@ fn expand_parts(parts: &[&str], names: &str, out: &mut Told) {
 }
 
 /// The lines of the text.
-fn lines_of(alloc: Global, text: &str) -> Result<Vec<Line>, AllocError> {
-    let mut lines = Vec::new(alloc);
+fn lines_of(alloc: Global, text: &str) -> Result<Lines, AllocError> {
+    let mut lines = Lines::new(alloc);
     for line in text.lines() {
         let number = lines.len() as u64 + 1;
-        let bytes = Bytes::new(line.as_bytes().to_vec(alloc)?);
-        lines.push(Line { number, bytes })?;
+        let bytes = line.as_bytes();
+        lines.push(&LentLine { number, bytes })?;
     }
     Ok(lines)
 }

@@ -1,4 +1,6 @@
-use Rattle.std.proofs.Common.{◌∙◌, ◌∷◌, ap}
+use Rattle.std.proofs.Common.{◌∙◌, ◌∷◌, Some, ap}
+use Rattle.aud_reader.specs.declared.line.Line.{Line}
+use Rattle.aud_reader.specs.declared.fault.ReadFault.TheVariants.{Input}
 use Rattle.aud_tap.specs.Names.{place_of}
 use Rattle.aud_reader.specs.Bundle.{Reading, taps_to_come}
 use Rattle.aud_reader.specs.SoFar.{taps_so_far}
@@ -31,5 +33,7 @@ returns-in-Err-Code-clause-taps c = λ more some.
     let (name, reads, place) = c.requires.own in
     let is = rw c.in-Err-Code.field-0-is at (c.in-Err-Code.ensures.taps c.args.line.now.bytes name (ap (λ (s : Reading). place_of s.taps name) c.self.view_is ∙ place) reads) in
     let none = ap (λ (s : Reading). s.fault) c.self.view_is ∙ c.requires.open in
-    line_refused (taps_so_far c.self.inside.taps) (taps_so_far c.push_record.new.self) c.args.line.now _ more c.self.inside.fault none reads c.in-Err-Code.code c.refuse.new.kept is c.refuse.ensures.after
+    let number = ap (λ (l : Line). l.number) c.line.view_is in
+    line_refused (taps_so_far c.self.inside.taps) (taps_so_far c.push_record.new.self) c.args.line.now _ more c.self.inside.fault none reads c.in-Err-Code.code c.refuse.new.kept is
+    (c.refuse.ensures.after ∙ ap (λ n. Some (Input n c.in-Err-Code.code)) number)
     ∙ ap (λ (s : Reading). taps_to_come s (c.args.line.now ∷ more)) c.self.view_is

@@ -8,4 +8,4 @@ returns-clause-ok c =
     let none : c.args.self.fault ≡ None = search rules in
     let whole : IsPartial c.args.self.rest = rw (← c.this.view_is) (c.this.invariant (search rules)) in
     let some : 0 < length c.args.self.rest = rw (← c.this.view_is) (let n : 0 < vec_len c.this.inside.rest = above_zero _ c.if-is_empty.ensures in omega (arith, c.this.inside.rest.ok)) in
-    to_come-ended c.args.self c.end_line.new.self c.take-2.result.items none whole.unended some (c.in_ok-end_line.ensures.after (λ e. cc)) c.in_ok-end_line.ensures.value c.take-2.ensures.lines
+    to_come-ended c.args.self c.end_line.new.self c.take-2.result none whole.unended some (c.in_ok-end_line.ensures.after (λ e. cc)) c.in_ok-end_line.ensures.value c.take-2.ensures.lines
