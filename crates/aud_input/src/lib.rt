@@ -37,7 +37,6 @@
 //! says from which lines of which files those of the part come, and [`RecordLines::named`] names these.
 #![tactic(auto)]
 
-mod batch;
 mod feeding;
 mod index;
 mod input;

@@ -5,13 +5,18 @@ ghost use Rattle.aud_tap.specs.Names.{AreNamedOnce};
 ghost use Rattle.aud_input.specs.Input.{opens_object, is_certificate, parts_of};
 ghost use Rattle.aud_input.specs.Reader.{AreAmong, Holds, line_numbered, parts_to_come};
 
-use crate::batch::Batch;
 use crate::input::{Input, Layout};
-use aud_reader::{BundleReader, LentLine, Line, ReadFault};
+use aud_reader::{BundleReader, LentLine, Line, Lines, ReadFault};
 use std::alloc::{AllocError, Global};
 use std::hash::RandomState;
 use std::marker::Model;
 use std::thread::Threads;
+
+/// So many lines are enough for several threads.
+const MAX_LINES: usize = 32_768;
+
+/// So many bytes are enough, however few the lines are.
+const MAX_BYTES: usize = 4_194_304;
 
 /// Reads lines until one is refused: keeps the certificates, and of the others what the reader of the bundle keeps. For
 /// more than one thread those wait until there are enough to be read together.
@@ -20,7 +25,9 @@ pub struct PartsReader {
     alloc: Global,
     layout: Layout,
     taps: BundleReader,
-    waiting: Batch,
+    waiting: Lines,
+    /// How many bytes the lines that wait have.
+    bytes: usize,
     certificates: Vec<Line>,
 }
 
@@ -60,7 +67,8 @@ impl PartsReader {
             alloc,
             layout,
             taps: BundleReader::new(alloc, keys),
-            waiting: Batch::new(alloc),
+            waiting: Lines::new(alloc),
+            bytes: 0,
             certificates: Vec::new(alloc),
         }
     }
@@ -81,9 +89,10 @@ impl PartsReader {
         ensures waits { AreAmong self.new.waiting self.old.waiting }
         ensures held { IfErr result (λ e. e ≢ ReadFault.Memory → Holds e self.new.waiting) }
     {
-        match self.taps.lines(rt, threads, self.waiting.lines()) {
+        match self.taps.lines(rt, threads, &self.waiting) {
             Ok(()) => {
                 self.waiting.clear();
+                self.bytes = 0;
                 Ok(())
             }
             Err(fault) => Err(fault),
@@ -100,10 +109,11 @@ impl PartsReader {
     {
         if is_certificate(self.layout, line) {
             self.certificates.push(line.copied(self.alloc)?)?;
-            Ok(())
         } else {
-            self.waiting.push(line)
+            self.waiting.push(line)?;
+            self.bytes = self.bytes.saturating_add(line.bytes.len());
         }
+        Ok(())
     }
 
     /// Keeps the next lines.
@@ -137,7 +147,7 @@ impl PartsReader {
         ensures held { IfErr result (λ e. e ≢ ReadFault.Memory → Holds e self.new.waiting) }
     {
         self.keep_lines(lines)?;
-        if self.waiting.is_full(threads) {
+        if threads < 2 || MAX_LINES <= self.waiting.len() || MAX_BYTES <= self.bytes {
             return self.read_waiting(rt, threads);
         }
         Ok(())
@@ -147,7 +157,12 @@ impl PartsReader {
     pub fn waiting_line(&self, number: u64) -> Result<Option<Line>, AllocError>
         ensures { IfOk result (λ line. line ≡ line_numbered number self.now.waiting) }
     {
-        self.waiting.line(self.alloc, number)
+        for line in &self.waiting.lent()? {
+            if line.number == number {
+                return Ok(Some(line.copied(self.alloc)?));
+            }
+        }
+        Ok(None)
     }
 
     /// The taps and the certificates of the lines that were read.
@@ -163,6 +178,7 @@ impl PartsReader {
             layout: _,
             taps,
             waiting: _,
+            bytes: _,
             certificates,
         } = self;
         let taps = taps.finish()?;
