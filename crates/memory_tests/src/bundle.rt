@@ -54,7 +54,7 @@ pub const CERTIFICATE: &str =
 pub fn lines(alloc: Global) -> Result<Lines, AllocError> {
     let mut lines = Lines::new(alloc);
     for text in BUNDLE.lines() {
-        let number = lines.len() as u64 + 1;
+        let number = (lines.len() as u64).saturating_add(1);
         let bytes = text.as_bytes();
         lines.push(&LentLine { number, bytes })?;
     }

@@ -59,7 +59,7 @@ pub type Part = (&'static str, &'static [&'static [u8]]);
 
 /// Appends a line of the tap of this name.
 fn push_line(alloc: Global, lines: &mut Lines, name: &str, json: &[u8]) -> Result<(), AllocError> {
-    let number = lines.len() as u64 + 1;
+    let number = (lines.len() as u64).saturating_add(1);
     let mut bytes = name.as_bytes().to_vec(alloc)?;
     bytes.push(b' ')?;
     bytes.extend_from_slice(json)?;

@@ -210,7 +210,7 @@ fn expand_parts(parts: &[&str], names: &str, out: &mut Told) {
 fn lines_of(alloc: Global, text: &str) -> Result<Lines, AllocError> {
     let mut lines = Lines::new(alloc);
     for line in text.lines() {
-        let number = lines.len() as u64 + 1;
+        let number = (lines.len() as u64).saturating_add(1);
         let bytes = line.as_bytes();
         lines.push(&LentLine { number, bytes })?;
     }
