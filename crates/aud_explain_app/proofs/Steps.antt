@@ -16,7 +16,10 @@ use Rattle.aud_input.specs.declared.input_file.InputFile.{InputFile}
 use Rattle.aud_input.specs.TapLines.{TapLines}
 use Rattle.aud_verdict.specs.declared.verdict.SessionVerdict.{SessionVerdict}
 use Rattle.aud_explain_app.specs.Strangers.{AreAdded, AreKnown, IsJudged, asked_in_vain, has_pid, pid_in_vain, pids_of, with_pids}
-use Rattle.aud_explain_app.specs.Texts.{AddTexts, AddsFor, AddsText, IsTextOf}
+use Rattle.aud_explain_app.specs.Explained.{IsExplained}
+use Rattle.aud_explain_app.specs.Texts.{AddTexts, IsTextOf}
+use Rattle.aud_explain_app.specs.Written.{IsWritten}
+use Rattle.aud_explain_app.specs.declared.explained.Explained.{Explained}
 use Rattle.aud_explain_app.specs.Asked.{refused_of}
 use Rattle.aud_node.specs.Stream.{Text}
 use Rattle.aud_session_facts.specs.declared.asked.Recovery.{Recovery}
@@ -144,13 +147,13 @@ texts_none c lines form files f xs a is =
 module _ {X T : Type 0} (c : Cluster) (lines : List TapLines) (form : Form) (files : List InputFile) (f : X → SessionVerdict) (g : T → List ℕ) where
   -- a text for each session, made apart from the others
   abbrev AreMade : List X → List T → Type 0
-  AreMade = AllZip (λ x t. AddsText c lines form files (f x) [] (g t))
+  AreMade = AllZip (λ x t. IsTextOf c lines form files (f x) (g t))
 
   each_text : (xs : List X) (ts : List T) → AreMade xs ts → AllZip (IsTextOf c lines form files) (map f xs) (map g ts)
   each_text [] [] h = tt
   each_text [] (t ∷ ts) h = absurd h
   each_text (x ∷ xs) [] h = absurd h
-  each_text (x ∷ xs) (t ∷ ts) h = (subst (IsTextOf c lines form files (f x)) (sym h.0.added) h.0.is_text, each_text xs ts h.1)
+  each_text (x ∷ xs) (t ∷ ts) h = (h.0, each_text xs ts h.1)
 
   all_texts : (ts : List T) → flat_map g ts ≡ flat_map (λ text. text) (map g ts)
   all_texts [] = refl
@@ -161,10 +164,10 @@ module _ {X T : Type 0} (c : Cluster) (lines : List TapLines) (form : Form) (fil
   texts_put xs ts a b made put = record { texts = map g ts; are_texts = each_text xs ts made; added = put ∙ ap (λ t. a ++ t) (all_texts ts) }
 
 -- the text of a session by its pid and its refused recoveries
-pub adds_text : (c : Cluster) (lines : List TapLines) (form : Form) (files : List InputFile) (session : SessionVerdict) (pid : Text) (refused : List Recovery) (old new : List ℕ) → pid ≡ session.pid
-    → refused ≡ refused_of c session.pid → AddsFor c lines form files pid session.verdict refused old new → AddsText c lines form files session old new
-adds_text c lines form files session pid refused old new is are adds =
-    let it : AddsFor c lines form files session.pid session.verdict (refused_of c session.pid) old new =
-    subst (λ p. AddsFor c lines form files p session.verdict (refused_of c session.pid) old new) is
-    (subst (λ r. AddsFor c lines form files pid session.verdict r old new) are adds) in
-    record { text = it.text; is_text = record { told = it.told; is_explained = it.is_explained; is_written = it.is_written }; added = it.added }
+pub text_by : (c : Cluster) (lines : List TapLines) (form : Form) (files : List InputFile) (session : SessionVerdict) (pid : Text) (refused : List Recovery) (told : Explained) (text : List ℕ) → pid ≡ session.pid
+    → refused ≡ refused_of c session.pid → IsExplained c lines pid session.verdict refused told → IsWritten form files pid session.verdict told text → IsTextOf c lines form files session text
+text_by c lines form files session pid refused told text is are explained written = record {
+  told = told;
+  is_explained = subst (λ p. IsExplained c lines p session.verdict (refused_of c session.pid) told) is (subst (λ r. IsExplained c lines pid session.verdict r told) are explained);
+  is_written = subst (λ p. IsWritten form files p session.verdict told text) is written;
+}

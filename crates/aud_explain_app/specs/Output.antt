@@ -39,6 +39,10 @@ use Rattle.aud_explain_app.specs.RefusedLine.{refused_output}
 use Rattle.aud_explain_app.specs.Page.{IsPage}
 use Rattle.aud_explain_app.specs.Chosen.{sessions_chosen}
 use Rattle.aud_explain_app.specs.Status.{status_by}
+use Rattle.aud_explain_app.specs.declared.fault.ExplainFault.{ExplainFault}
+use Rattle.aud_explain_app.specs.declared.fault.ExplainFault.TheVariants.{NoRecord, OtherPart, Unexplained, Write}
+use Rattle.aud_explain_app.specs.declared.fault.Unexplained.{Unexplained as Why}
+use Rattle.aud_explain_app.specs.declared.fault.Unexplained.TheVariants.{NoSession}
 use Rattle.aud_explain_app.specs.declared.output.Figures.{Figures}
 use Rattle.aud_explain_app.specs.Missing.{first_missing, pids_known}
 use Rattle.aud_explain_app.specs.Records.{first_lacking, records_output}
@@ -166,3 +170,23 @@ IsOther (Some part) size = ¬ (part.size ≡ size)
 -- the files are recorded, and have another size than the part whose lines are to be named
 abbrev pub AreOther : Option PartLines → List (Option (List ℕ)) → Type 0
 AreOther part lefts = (read : Recorded) × AreRecorded lefts read × IsOther part read.size
+
+-- why sessions are not explained: no session has this pid of the words, and each before it has one
+abbrev pub IsUnexplained : ExplainOptions → List Tap → Why → Type 0
+IsUnexplained options taps (NoSession number) = first_missing (pids_known (cluster_of taps)) options.pids ≡ Some number
+IsUnexplained options taps why = Unit {0}
+
+-- why nothing is told of what was read, which is this part or a whole
+abbrev pub IsUntold : ExplainOptions → Option PartLines → Recorded → ExplainFault → Type 0
+IsUntold options part read (Unexplained why) = IsUnexplained options read.taps why
+IsUntold options part read (NoRecord number) = first_lacking read.taps options.records ≡ Some number
+IsUntold options part read OtherPart = IsOther part read.size
+IsUntold options part read Write = ⊥
+
+-- why nothing is told of files: the first pid of no session, the first record that isn't there, or a part of another size
+abbrev pub AreUntold : ExplainOptions → Option PartLines → List (Option (List ℕ)) → ExplainFault → Type 0
+AreUntold options part lefts (Unexplained (NoSession number)) = IsFirstMissing options lefts number
+AreUntold options part lefts (Unexplained why) = Unit {0}
+AreUntold options part lefts (NoRecord number) = IsFirstLacking options lefts number
+AreUntold options part lefts OtherPart = AreOther part lefts
+AreUntold options part lefts Write = ⊥

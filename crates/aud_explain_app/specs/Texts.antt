@@ -20,20 +20,6 @@ pub record IsTextOf (c : Cluster) (lines : List TapLines) (form : Form) (files :
   pub is_explained : IsExplained c lines session.pid session.verdict (refused_of c session.pid) told
   pub is_written : IsWritten form files session.pid session.verdict told text
 
--- the text of an explanation of the session with this pid, this verdict and these refused recoveries was added
-pub record AddsFor (c : Cluster) (lines : List TapLines) (form : Form) (files : List InputFile) (pid : Text) (verdict : Verdict) (refused : List Recovery) (old new : List ℕ) : Type 0 where
-  pub told : Explained
-  pub is_explained : IsExplained c lines pid verdict refused told
-  pub text : List ℕ
-  pub is_written : IsWritten form files pid verdict told text
-  pub added : new ≡ old ++ text
-
--- such a text was added
-pub record AddsText (c : Cluster) (lines : List TapLines) (form : Form) (files : List InputFile) (session : SessionVerdict) (old new : List ℕ) : Type 0 where
-  pub text : List ℕ
-  pub is_text : IsTextOf c lines form files session text
-  pub added : new ≡ old ++ text
-
 -- texts of these sessions, one of each, were added
 pub record AddTexts (c : Cluster) (lines : List TapLines) (form : Form) (files : List InputFile) (sessions : List SessionVerdict) (old new : List ℕ) : Type 0 where
   pub texts : List (List ℕ)

@@ -36,9 +36,3 @@ pub record IsWritten (form : Form) (files : List InputFile) (pid : Text) (verdic
   pub explanation : Explanation
   pub is_of : IsOf pid verdict told explanation
   pub text_is : text ≡ form_text form files explanation
-
--- such a text was added
-pub record Adds (form : Form) (files : List InputFile) (pid : Text) (verdict : Verdict) (told : Explained) (old new : List ℕ) : Type 0 where
-  pub text : List ℕ
-  pub is_written : IsWritten form files pid verdict told text
-  pub added : new ≡ old ++ text

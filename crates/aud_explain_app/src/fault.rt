@@ -39,6 +39,14 @@ impl From<AllocError> for ExplainFault {
     }
 }
 
+impl From<Unexplained> for ExplainFault {
+    ghost from_gives = { λ why e. e ≡ fault.Unexplained why };
+
+    fn from(why: Unexplained) -> ExplainFault {
+        ExplainFault::Unexplained(why)
+    }
+}
+
 impl From<AllocError> for Unexplained {
     ghost from_gives = { λ _ e. e ≡ Memory };
 

@@ -1,21 +1,15 @@
 //! A whole run of `explain`: files in, explanations out.
-ghost use Rattle.std.specs.Prelude.{◌≡◌, ◌≢◌, ◌<◌, ◌≤◌, ℕ, true, IfErr, IfOk, OnErr, Err, Some, length, map, option_map};
+ghost use Rattle.std.specs.Prelude.{◌≡◌, ◌≢◌, ◌<◌, ◌≤◌, true, IfErr, IfOk, OnErr, Err, None, length, map, option_map};
 ghost use Rattle.std.specs.Io.KnownBytes.{Appends};
 ghost use Rattle.aud_base.specs.Written.{AppendsFront};
 ghost use Rattle.aud_base.specs.Watched.{inner_of, has_failed};
-ghost use Rattle.aud_input.specs.InputFiles.{input_files};
-ghost use Rattle.aud_input.specs.LineRuns.{taps_named};
-ghost use Rattle.aud_node.specs.Cluster.{cluster_of};
 ghost use Rattle.aud_node.specs.Names.{AreNamedOnce};
-ghost use Rattle.aud_explain_app.specs.Missing.{first_missing, pids_known};
-ghost use Rattle.aud_explain_app.specs.Output.{AreOther, IsAnswer, IsExplaining, IsExplanation, IsFirstLacking, IsFirstMissing, IsOf, IsOther, IsTold, files_told, form_of, lines_told};
-ghost use Rattle.aud_explain_app.specs.Records.{first_lacking};
+ghost use Rattle.aud_explain_app.specs.Output.{AreUntold, IsAnswer, IsExplanation, IsOf, IsTold, IsUntold, files_told, form_of, lines_told};
 ghost use Rattle.aud_explain_app.specs.RefusedLine.{refused_output};
 ghost use Rattle.aud_explain_app.specs.Run.{Writes, WritesFront};
 ghost use Rattle.aud_explain_app.specs.declared.fault.ExplainFault.TheVariants as fault;
-ghost use Rattle.aud_explain_app.specs.declared.fault.Unexplained.{Unexplained};
-ghost use Rattle.aud_explain_app.specs.declared.fault.ExplainFault.TheVariants.{NoRecord, OtherPart, Write};
-ghost use Rattle.aud_explain_app.specs.declared.fault.Unexplained.TheVariants.{Memory, NoSession};
+ghost use Rattle.aud_explain_app.specs.declared.fault.ExplainFault.TheVariants.{Write};
+ghost use Rattle.aud_explain_app.specs.declared.fault.Unexplained.TheVariants.{Memory};
 
 use crate::fault::{ExplainFault, Unexplained};
 use crate::html::in_form;
@@ -37,32 +31,6 @@ use std::sync::Wait;
 use std::thread::Threads;
 use std::time::{Clock, Instant};
 
-/// The sessions of the recording explained, where the lines of its records are these, in these files.
-fn explaining<H: Threads + Wait + Clock + Sync>(
-    rt: &H,
-    alloc: Global,
-    keys: RandomState,
-    options: &ExplainOptions,
-    start: Option<Instant>,
-    recorded: &Recorded,
-    lines: &RecordLines,
-    files: &[InputFile],
-) -> Result<Output, ExplainFault>
-    requires names { AreNamedOnce recorded.now.taps }
-    requires workers { (0 < options.now.workers) × (options.now.workers ≤ 64) }
-    ensures told { IfOk result (IsExplaining options.now
-        (cluster_of recorded.now.taps) lines.now files.now recorded.now.size) }
-    ensures fault { IfErr result (λ e. (why : Unexplained) × (e ≡ fault.Unexplained why)
-        × ((number : ℕ) → why ≡ NoSession number
-        → first_missing (pids_known (cluster_of recorded.now.taps)) options.now.pids
-        ≡ Some number)) }
-{
-    match output_of(rt, alloc, keys, options, start, recorded, lines, files) {
-        Ok(output) => Ok(output),
-        Err(why) => Err(ExplainFault::Unexplained(why)),
-    }
-}
-
 /// What is told of the recording, where the lines of its records are these, in these files: the records that are named,
 /// or, where none is, its sessions.
 fn told_with<H: Threads + Wait + Clock + Sync>(
@@ -79,80 +47,20 @@ fn told_with<H: Threads + Wait + Clock + Sync>(
     requires workers { (0 < options.now.workers) × (options.now.workers ≤ 64) }
     ensures told { IfOk result (IsAnswer options.now.records options.now
         recorded.now.taps lines.now files.now recorded.now.size) }
-    ensures missing { (number : ℕ) → result ≡ Err (fault.Unexplained (NoSession number))
-        → first_missing (pids_known (cluster_of recorded.now.taps)) options.now.pids ≡ Some number }
-    ensures lacking { (number : ℕ) → result ≡ Err (NoRecord number)
-        → first_lacking recorded.now.taps options.now.records ≡ Some number }
-    ensures other { result ≢ Err OtherPart }
-    ensures write { result ≢ Err Write }
+    ensures untold { IfErr result (IsUntold options.now None recorded.now) }
 {
     let records = options.records.as_slice();
     if records.is_empty() {
-        return explaining(rt, alloc, keys, options, start, recorded, lines, files);
+        let explained = output_of(rt, alloc, keys, options, start, recorded, lines, files)?;
+        return Ok(explained);
     }
     let form = form_of(options);
     let layout = Layout { form, files };
     records_output(alloc, layout, recorded.taps.as_slice(), lines, records)
 }
 
-/// The same of a part, its lines named as those of the input that they come from.
-fn told_named<H: Threads + Wait + Clock + Sync>(
-    rt: &H,
-    alloc: Global,
-    keys: RandomState,
-    options: &ExplainOptions,
-    start: Option<Instant>,
-    recorded: &Recorded,
-    part: &PartLines,
-) -> Result<Output, ExplainFault>
-    requires names { AreNamedOnce recorded.now.taps }
-    requires workers { (0 < options.now.workers) × (options.now.workers ≤ 64) }
-    ensures told { IfOk result (λ output. (part.now.size ≡ recorded.now.size)
-        × IsAnswer options.now.records options.now recorded.now.taps
-        (taps_named part.now.runs recorded.now.lines) part.now.files recorded.now.size output) }
-    ensures missing { (number : ℕ) → result ≡ Err (fault.Unexplained (NoSession number))
-        → first_missing (pids_known (cluster_of recorded.now.taps)) options.now.pids ≡ Some number }
-    ensures lacking { (number : ℕ) → result ≡ Err (NoRecord number)
-        → first_lacking recorded.now.taps options.now.records ≡ Some number }
-    ensures other { result ≡ Err OtherPart → ¬ (part.now.size ≡ recorded.now.size) }
-    ensures write { result ≢ Err Write }
-{
-    if !part.is_of(recorded.size) {
-        return Err(ExplainFault::OtherPart);
-    }
-    let files = part.files.as_slice();
-    let lines = recorded.lines.named(alloc, &part.runs)?;
-    told_with(rt, alloc, keys, options, start, recorded, &lines, files)
-}
-
-/// The same of a whole, whose files are those that the words name.
-fn told_whole<H: Threads + Wait + Clock + Sync>(
-    rt: &H,
-    alloc: Global,
-    keys: RandomState,
-    options: &ExplainOptions,
-    start: Option<Instant>,
-    recorded: &Recorded,
-) -> Result<Output, ExplainFault>
-    requires names { AreNamedOnce recorded.now.taps }
-    requires workers { (0 < options.now.workers) × (options.now.workers ≤ 64) }
-    ensures told { IfOk result (IsAnswer options.now.records options.now
-        recorded.now.taps recorded.now.lines
-        (input_files options.now.files recorded.now.counts.items) recorded.now.size) }
-    ensures missing { (number : ℕ) → result ≡ Err (fault.Unexplained (NoSession number))
-        → first_missing (pids_known (cluster_of recorded.now.taps)) options.now.pids ≡ Some number }
-    ensures lacking { (number : ℕ) → result ≡ Err (NoRecord number)
-        → first_lacking recorded.now.taps options.now.records ≡ Some number }
-    ensures other { result ≢ Err OtherPart }
-    ensures write { result ≢ Err Write }
-{
-    let lines = &recorded.lines;
-    let files = InputFiles::of(alloc, options.files.as_slice(), &recorded.counts)?;
-    let files = files.as_slice();
-    told_with(rt, alloc, keys, options, start, recorded, lines, files)
-}
-
-/// What is told of the recording, where it is this part, or a whole.
+/// What is told of the recording, where it is this part, its lines named as those of the input that they come from, or a
+/// whole, whose files are those that the words name.
 fn told_of<H: Threads + Wait + Clock + Sync>(
     rt: &H,
     alloc: Global,
@@ -170,18 +78,21 @@ fn told_of<H: Threads + Wait + Clock + Sync>(
         (lines_told (option_map (λ part. part.now) part.entry) recorded.now.lines)
         (files_told (option_map (λ part. part.now) part.entry) options.now.files
         recorded.now.counts.items) recorded.now.size output) }
-    ensures missing { (number : ℕ) → result ≡ Err (fault.Unexplained (NoSession number))
-        → first_missing (pids_known (cluster_of recorded.now.taps)) options.now.pids ≡ Some number }
-    ensures lacking { (number : ℕ) → result ≡ Err (NoRecord number)
-        → first_lacking recorded.now.taps options.now.records ≡ Some number }
-    ensures other { result ≡ Err OtherPart
-        → IsOther (option_map (λ part. part.now) part.entry) recorded.now.size }
-    ensures write { result ≢ Err Write }
+    ensures untold { IfErr result (IsUntold options.now
+        (option_map (λ part. part.now) part.entry) recorded.now) }
 {
-    match part {
-        Some(part) => told_named(rt, alloc, keys, options, start, recorded, part),
-        None => told_whole(rt, alloc, keys, options, start, recorded),
+    let Some(part) = part else {
+        let lines = &recorded.lines;
+        let files = InputFiles::of(alloc, options.files.as_slice(), &recorded.counts)?;
+        let files = files.as_slice();
+        return told_with(rt, alloc, keys, options, start, recorded, lines, files);
+    };
+    if !part.is_of(recorded.size) {
+        return Err(ExplainFault::OtherPart);
     }
+    let lines = recorded.lines.named(alloc, &part.runs)?;
+    let files = part.files.as_slice();
+    told_with(rt, alloc, keys, options, start, recorded, &lines, files)
 }
 
 /// What is told of a line that is refused.
@@ -211,14 +122,8 @@ fn told<H: Threads + Wait + Clock + Sync, R: Read>(
     requires workers { (0 < options.now.workers) × (options.now.workers ≤ 64) }
     ensures told { IfOk result (IsTold options.now (option_map (λ part. part.now) part.entry)
         (map (λ file. R.remaining (inner_of file)) files.old)) }
-    ensures missing { (number : ℕ) → result ≡ Err (fault.Unexplained (NoSession number))
-        → IsFirstMissing options.now (map (λ file. R.remaining (inner_of file)) files.old) number }
-    ensures lacking { (number : ℕ) → result ≡ Err (NoRecord number)
-        → IsFirstLacking options.now (map (λ file. R.remaining (inner_of file)) files.old) number }
-    ensures other { result ≡ Err OtherPart
-        → AreOther (option_map (λ part. part.now) part.entry)
-        (map (λ file. R.remaining (inner_of file)) files.old) }
-    ensures write { result ≢ Err Write }
+    ensures untold { IfErr result (AreUntold options.now (option_map (λ part. part.now) part.entry)
+        (map (λ file. R.remaining (inner_of file)) files.old)) }
 {
     let start = Instant::now(rt).ok();
     match read_files(rt, options.workers as usize, alloc, keys, files) {
@@ -227,10 +132,8 @@ fn told<H: Threads + Wait + Clock + Sync, R: Read>(
             told_of(rt, alloc, keys, options, start, &recorded, part)
         }
         Err(ReadingFault::Refused(refusal)) => told_refused(alloc, options, &refusal),
-        Err(ReadingFault::Unread { file }) => {
-            Err(ExplainFault::Unexplained(Unexplained::Unread { file }))
-        }
-        Err(ReadingFault::Memory) => Err(ExplainFault::Unexplained(Unexplained::Memory)),
+        Err(ReadingFault::Unread { file }) => Err(Unexplained::Unread { file }.into()),
+        Err(ReadingFault::Memory) => Err(Unexplained::Memory.into()),
     }
 }
 
@@ -248,19 +151,10 @@ fn explained<H: Threads + Wait + Clock + Sync, R: Read>(
     ensures explanation { IfOk result (IsExplanation options.now
         (option_map (λ part. part.now) part.entry)
         (map (λ file. R.remaining (inner_of file)) files.old)) }
-    ensures missing { (number : ℕ) → result ≡ Err (fault.Unexplained (NoSession number))
-        → IsFirstMissing options.now (map (λ file. R.remaining (inner_of file)) files.old) number }
-    ensures lacking { (number : ℕ) → result ≡ Err (NoRecord number)
-        → IsFirstLacking options.now (map (λ file. R.remaining (inner_of file)) files.old) number }
-    ensures other { result ≡ Err OtherPart
-        → AreOther (option_map (λ part. part.now) part.entry)
-        (map (λ file. R.remaining (inner_of file)) files.old) }
-    ensures write { result ≢ Err Write }
+    ensures untold { IfErr result (AreUntold options.now (option_map (λ part. part.now) part.entry)
+        (map (λ file. R.remaining (inner_of file)) files.old)) }
 {
-    let told = match told(rt, alloc, keys, files, options, part) {
-        Ok(told) => told,
-        Err(fault) => return Err(fault),
-    };
+    let told = told(rt, alloc, keys, files, options, part)?;
     Ok(in_form(alloc, options.form, told)?)
 }
 
@@ -301,18 +195,12 @@ pub fn explain<H: Threads + Wait + Clock + Sync, R: Read, W: Write>(
     ensures write { result ≡ Err Write → has_failed output.new ≡ true }
     // After every other fault nothing was.
     ensures nothing { OnErr result (result ≢ Err Write → output.new ≡ output.old) }
-    // `NoSession` comes for the first pid of the words that no session has, and for no other; where there is one,
-    // nothing is explained.
-    ensures missing { (number : ℕ) → result ≡ Err (fault.Unexplained (NoSession number))
-        → IsFirstMissing options.now (map (λ file. R.remaining (inner_of file)) files.old) number }
-    // `NoRecord` comes for the first record of the words that the bundle doesn't have, and for no other; where there is
-    // one, nothing is shown.
-    ensures lacking { (number : ℕ) → result ≡ Err (NoRecord number)
-        → IsFirstLacking options.now (map (λ file. R.remaining (inner_of file)) files.old) number }
-    // `OtherPart` comes where the files are recorded, and have another size than the part, and only then.
-    ensures other { result ≡ Err OtherPart
-        → AreOther (option_map (λ part. part.now) part.entry)
-        (map (λ file. R.remaining (inner_of file)) files.old) }
+    // `NoSession` comes for the first pid of the words that no session has, and for no other; `NoRecord` for the first
+    // record of the words that the bundle doesn't have; `OtherPart` where the files are recorded, and have another size
+    // than the part.
+    ensures untold { IfErr result (λ e. e ≢ Write → AreUntold options.now
+        (option_map (λ part. part.now) part.entry)
+        (map (λ file. R.remaining (inner_of file)) files.old) e) }
 {
     match explained(rt, alloc, keys, files, options, part) {
         Ok(explained) => written(output, &explained),

@@ -50,19 +50,11 @@ fn with_help(
         ++ help.now) }
 {
     let mut out = line;
-    push_place(&mut out, file, number)?;
+    if let Some(name) = file {
+        push_named(&mut out, name, number)?;
+    }
     out.push_str(help)?;
     Ok(out)
-}
-
-fn push_place(out: &mut String, file: Option<&str>, number: u64) -> Result<(), AllocError>
-    ensures { OnOk result (string_bytes out.new
-        ≡ string_bytes out.old ++ place_line (option_map (λ name. name.now) file.entry) number) }
-{
-    match file {
-        Some(name) => push_named(out, name, number),
-        None => Ok(()),
-    }
 }
 
 fn push_named(out: &mut String, name: &str, number: u64) -> Result<(), AllocError>

@@ -1,18 +1,17 @@
 //! The explanations of sessions.
-ghost use Rattle.std.specs.Prelude.{◌≡◌, ◌++◌, [], IfOk, OnOk, flat_map, map, string_bytes};
+ghost use Rattle.std.specs.Prelude.{◌≡◌, ◌++◌, IfOk, OnOk, flat_map, map, string_bytes};
 ghost use Rattle.std.specs.List.{AllZip};
 ghost use Rattle.aud_findings.specs.Prepared.{IsPreparedOf};
 ghost use Rattle.aud_explain_app.specs.Asked.{AreAsked};
-ghost use Rattle.aud_explain_app.specs.Texts.{AddTexts, AddsFor, AddsText};
+ghost use Rattle.aud_explain_app.specs.Texts.{AddTexts, IsTextOf};
 
 use crate::asked::Asked;
 use crate::explained::explained_of;
-use crate::written::{Layout, push_explained};
+use crate::written::{Layout, written};
 use aud_base::try_map;
 use aud_findings::Prepared;
 use aud_rows::Sheet;
-use aud_session_facts::Recovery;
-use aud_verdict::{SessionVerdict, Verdict};
+use aud_verdict::SessionVerdict;
 use std::alloc::{AllocError, Global};
 use std::thread::Threads;
 
@@ -42,34 +41,11 @@ pub(crate) fn push_sessions<H: Threads + Sync>(
     while done < sessions.len() {
         let rest = &sessions[done..];
         let part = &rest[..rest.len().min(PART)];
-        push_part(
-            rt, alloc, threads, out, layout, sheet, prepared, asked, part,
-        )?;
+        let texts = texts_of(rt, alloc, threads, layout, sheet, prepared, asked, part)?;
+        push_all(out, &texts)?;
         done += part.len();
     }
     Ok(())
-}
-
-/// Writes those of a part of them at the end.
-fn push_part<H: Threads + Sync>(
-    rt: &H,
-    alloc: Global,
-    threads: usize,
-    out: &mut String,
-    layout: Layout<'_>,
-    sheet: Sheet<'_, '_>,
-    prepared: &Prepared,
-    asked: &Asked,
-    sessions: &[&SessionVerdict],
-) -> Result<(), AllocError>
-    requires prepared { IsPreparedOf sheet.recording.now prepared.now }
-    requires asked { AreAsked sheet.recording.now asked.now }
-    ensures { OnOk result (AddTexts sheet.entry.recording.now sheet.entry.lines.now
-        layout.entry.form layout.entry.files.now (map (λ s. s.now) sessions.now)
-        (string_bytes out.old) (string_bytes out.new)) }
-{
-    let texts = texts_of(rt, alloc, threads, layout, sheet, prepared, asked, sessions)?;
-    push_all(out, &texts)
 }
 
 /// Writes the texts at the end, one after the other.
@@ -98,8 +74,8 @@ fn texts_of<H: Threads + Sync>(
     requires asked { AreAsked sheet.recording.now asked.now }
     ensures { IfOk result (λ texts. AllZip
         (λ session text.
-        AddsText sheet.entry.recording.now sheet.entry.lines.now layout.entry.form
-        layout.entry.files.now session.now [] (string_bytes text)) sessions.now texts.items) }
+        IsTextOf sheet.entry.recording.now sheet.entry.lines.now layout.entry.form
+        layout.entry.files.now session.now (string_bytes text)) sessions.now texts.items) }
 {
     try_map(
         rt,
@@ -110,13 +86,13 @@ fn texts_of<H: Threads + Sync>(
             requires prepared { IsPreparedOf sheet.recording.now prepared.now }
             requires asked { AreAsked sheet.recording.now asked.now }
             ensures { IfOk result (λ text.
-                AddsText sheet.entry.recording.now sheet.entry.lines.now layout.entry.form
-                layout.entry.files.now session.now.now [] (string_bytes text)) }
+                IsTextOf sheet.entry.recording.now sheet.entry.lines.now layout.entry.form
+                layout.entry.files.now session.now.now (string_bytes text)) }
         { text_of(alloc, layout, sheet, prepared, asked, *session) },
     )
 }
 
-/// The explanation of the session.
+/// The explanation of the session, written.
 fn text_of(
     alloc: Global,
     layout: Layout<'_>,
@@ -127,62 +103,13 @@ fn text_of(
 ) -> Result<String, AllocError>
     requires prepared { IsPreparedOf sheet.recording.now prepared.now }
     requires asked { AreAsked sheet.recording.now asked.now }
-    ensures { IfOk result (λ text.
-        AddsText sheet.entry.recording.now sheet.entry.lines.now layout.entry.form
-        layout.entry.files.now session.now [] (string_bytes text)) }
-{
-    let mut text = String::new(alloc);
-    push_session(alloc, &mut text, layout, sheet, prepared, asked, session)?;
-    Ok(text)
-}
-
-/// Writes that of the session at the end.
-fn push_session(
-    alloc: Global,
-    out: &mut String,
-    layout: Layout<'_>,
-    sheet: Sheet<'_, '_>,
-    prepared: &Prepared,
-    asked: &Asked,
-    session: &SessionVerdict,
-) -> Result<(), AllocError>
-    requires prepared { IsPreparedOf sheet.recording.now prepared.now }
-    requires asked { AreAsked sheet.recording.now asked.now }
-    ensures { OnOk result (AddsText sheet.entry.recording.now sheet.entry.lines.now
-        layout.entry.form layout.entry.files.now session.now (string_bytes out.old)
-        (string_bytes out.new)) }
+    ensures { IfOk result (λ text. IsTextOf sheet.entry.recording.now sheet.entry.lines.now
+        layout.entry.form layout.entry.files.now session.now (string_bytes text)) }
 {
     let pid = session.pid.as_str();
-    let refused = asked.refused_of(alloc, pid)?;
     let verdict = &session.verdict;
-    push_told(
-        alloc,
-        out,
-        layout,
-        sheet,
-        prepared,
-        pid,
-        verdict,
-        refused.as_slice(),
-    )
-}
-
-/// Writes that of the session with this pid at the end, of which these recoveries were refused.
-fn push_told(
-    alloc: Global,
-    out: &mut String,
-    layout: Layout<'_>,
-    sheet: Sheet<'_, '_>,
-    prepared: &Prepared,
-    pid: &str,
-    verdict: &Verdict,
-    refused: &[Recovery],
-) -> Result<(), AllocError>
-    requires { IsPreparedOf sheet.recording.now prepared.now }
-    ensures { OnOk result (AddsFor sheet.entry.recording.now sheet.entry.lines.now
-        layout.entry.form layout.entry.files.now pid.now verdict.now refused.now
-        (string_bytes out.old) (string_bytes out.new)) }
-{
+    let refused = asked.refused_of(alloc, pid)?;
+    let refused = refused.as_slice();
     let explained = explained_of(alloc, sheet, prepared, pid, verdict, refused)?;
-    push_explained(alloc, out, layout, pid, verdict, &explained)
+    written(alloc, layout, pid, verdict, &explained)
 }

@@ -1,8 +1,8 @@
 //! The explanation of a session, written.
-ghost use Rattle.std.specs.Prelude.{◌≡◌, ◌++◌, OnOk, codes, string_bytes};
+ghost use Rattle.std.specs.Prelude.{◌≡◌, ◌++◌, IfOk, codes, string_bytes};
 ghost use Rattle.aud_explanation.specs.Json.{explanation_json};
 ghost use Rattle.aud_explanation.specs.Text.{explanation_text};
-ghost use Rattle.aud_explain_app.specs.Written.{Adds, form_text};
+ghost use Rattle.aud_explain_app.specs.Written.{IsWritten, form_text};
 
 use crate::explained::Explained;
 use crate::lent::{also_lent, causes_lent, refused_lent};
@@ -28,59 +28,60 @@ pub struct Layout<'f> {
     pub files: &'f [InputFile],
 }
 
-/// Writes the explanation at the end.
-fn push_explanation(
+/// The explanation for a reader.
+fn in_lines(
     alloc: Global,
-    out: &mut String,
+    files: &[InputFile],
+    explanation: &Explanation<'_, '_, '_>,
+) -> Result<String, AllocError>
+    ensures { IfOk result (λ text. string_bytes text
+        ≡ explanation_text files.now explanation.now ++ codes "\n") }
+{
+    let mut text = String::new(alloc);
+    push_text(alloc, &mut text, files, explanation)?;
+    text.push('\n')?;
+    Ok(text)
+}
+
+/// The explanation for a program.
+fn in_json(
+    alloc: Global,
+    files: &[InputFile],
+    explanation: &Explanation<'_, '_, '_>,
+) -> Result<String, AllocError>
+    ensures { IfOk result (λ text. string_bytes text
+        ≡ explanation_json files.now explanation.now ++ codes "\n") }
+{
+    let mut text = explanation_json(alloc, files, explanation)?;
+    text.push('\n')?;
+    Ok(text)
+}
+
+/// The explanation, in its form.
+fn text_of(
+    alloc: Global,
     layout: Layout<'_>,
     explanation: &Explanation<'_, '_, '_>,
-) -> Result<(), AllocError>
-    ensures { OnOk result (string_bytes out.new ≡ string_bytes out.old
-        ++ form_text layout.entry.form layout.entry.files.now explanation.now) }
+) -> Result<String, AllocError>
+    ensures { IfOk result (λ text. string_bytes text
+        ≡ form_text layout.entry.form layout.entry.files.now explanation.now) }
 {
     match layout.form {
-        Form::Text => push_lines(alloc, out, layout.files, explanation),
-        Form::Json => push_json(alloc, out, layout.files, explanation),
+        Form::Text => in_lines(alloc, layout.files, explanation),
+        Form::Json => in_json(alloc, layout.files, explanation),
     }
 }
 
-fn push_lines(
+/// What is told of the session with this pid, on which this is the verdict.
+pub fn written(
     alloc: Global,
-    out: &mut String,
-    files: &[InputFile],
-    explanation: &Explanation<'_, '_, '_>,
-) -> Result<(), AllocError>
-    ensures { OnOk result (string_bytes out.new
-        ≡ string_bytes out.old ++ (explanation_text files.now explanation.now ++ codes "\n")) }
-{
-    push_text(alloc, out, files, explanation)?;
-    writeln!(out, "")
-}
-
-fn push_json(
-    alloc: Global,
-    out: &mut String,
-    files: &[InputFile],
-    explanation: &Explanation<'_, '_, '_>,
-) -> Result<(), AllocError>
-    ensures { OnOk result (string_bytes out.new
-        ≡ string_bytes out.old ++ (explanation_json files.now explanation.now ++ codes "\n")) }
-{
-    let line = explanation_json(alloc, files, explanation)?;
-    writeln!(out, "{line}")
-}
-
-/// Writes what is told of the session with this pid, on which this is the verdict, at the end of `out`.
-pub fn push_explained(
-    alloc: Global,
-    out: &mut String,
     layout: Layout<'_>,
     pid: &str,
     verdict: &Verdict,
     explained: &Explained<'_>,
-) -> Result<(), AllocError>
-    ensures { OnOk result (Adds layout.entry.form layout.entry.files.now pid.now verdict.now
-        explained.now (string_bytes out.old) (string_bytes out.new)) }
+) -> Result<String, AllocError>
+    ensures { IfOk result (λ text. IsWritten layout.entry.form layout.entry.files.now pid.now
+        verdict.now explained.now (string_bytes text)) }
 {
     let also = also_lent(alloc, explained.outcome.also.as_slice())?;
     let refused = refused_lent(alloc, explained.refused.as_slice())?;
@@ -101,5 +102,5 @@ pub fn push_explained(
         events: explained.events.as_slice(),
         causes: causes.as_slice(),
     };
-    push_explanation(alloc, out, layout, &explanation)
+    text_of(alloc, layout, &explanation)
 }

@@ -1,7 +1,8 @@
 use Rattle.std.proofs.Common.{◌≡◌, ◌∙◌, inl, map, subst, sym}
-use Rattle.std.proofs.lemmas.Result.{IfOk-weaker}
+use Rattle.std.proofs.lemmas.Result.{IfErr-weaker, IfOk-weaker}
 use Rattle.aud_base.specs.Watched.{inner_of}
 use Rattle.aud_input.specs.Files.{AreRecorded}
+use Rattle.aud_explain_app.proofs.Untold.{untold_files}
 use Rattle.aud_explain_app.proofs.program.told.Given.{Over}
 use Rattle.aud_explain_app.proofs.program.told.Goals as goal
 
@@ -14,11 +15,6 @@ recorded g c =
 pub returns-in-Ok-clause-told : goal.returns-in-Ok-clause-told
 returns-in-Ok-clause-told g c = IfOk-weaker c.told_of.result _ _ (λ output told. inl (c.deref.result.now, recorded g c, told.0, told.1)) c.told_of.ensures.told
 
-pub returns-in-Ok-clause-missing : goal.returns-in-Ok-clause-missing
-returns-in-Ok-clause-missing g c = λ number is. (c.deref.result.now, recorded g c, c.told_of.ensures.missing number is)
-
-pub returns-in-Ok-clause-lacking : goal.returns-in-Ok-clause-lacking
-returns-in-Ok-clause-lacking g c = λ number is. (c.deref.result.now, recorded g c, c.told_of.ensures.lacking number is)
-
-pub returns-in-Ok-clause-other : goal.returns-in-Ok-clause-other
-returns-in-Ok-clause-other g c = λ is. (c.deref.result.now, recorded g c, c.told_of.ensures.other is)
+pub returns-in-Ok-clause-untold : goal.returns-in-Ok-clause-untold
+returns-in-Ok-clause-untold g c =
+    IfErr-weaker c.told_of.result _ _ (λ e why. untold_files c.args.options.now _ (map (λ file. g.R.Read.remaining (inner_of file)) c.args.files.now) c.deref.result.now e (recorded g c) why) c.told_of.ensures.untold

@@ -1,13 +1,21 @@
-use Rattle.std.proofs.Common.{drop, string_bytes, arith}
+use Rattle.std.proofs.Common.{◌++◌, ◌∙◌, drop, flat_map, string_bytes, ap, arith}
 use Rattle.std.proofs.lemmas.List.{drop_all}
-use Rattle.aud_explain_app.proofs.Steps.{texts_none, texts_part}
+use Rattle.aud_explain_app.proofs.Steps.{texts_none, texts_part, texts_put}
 use Rattle.aud_explain_app.proofs.sessions.push_sessions.Goals as goal
 
 pub loop-done-preserved : goal.loop-done-preserved
 loop-done-preserved g c = λ end others.
+    let recording = c.args.sheet.recording.now in
+    let lines = c.args.sheet.lines.now in
+    let form = c.args.layout.form in
+    let files = c.args.layout.files.now in
+    let before = string_bytes c.loop-done.out in
+    let put =
+    texts_put recording lines form files (λ s. s.now) string_bytes _ _ before (string_bytes c.push_all.new.out) c.in_ok-texts.ensures
+    (c.in_ok-push_all.ensures ∙ ap (λ texts. before ++ flat_map string_bytes texts) c.deref.ensures.value)
+    in
     c.loop-done.invariant end
-    (texts_part c.args.sheet.recording.now c.args.sheet.lines.now c.args.layout.form c.args.layout.files.now (λ s. s.now) c.args.sessions.now c.loop-done.done c.min.result _ _ end
-    (omega (arith, c.min.ensures)) c.in_ok-push_part.ensures others)
+    (texts_part recording lines form files (λ s. s.now) c.args.sessions.now c.loop-done.done c.min.result _ _ end (omega (arith, c.min.ensures)) put others)
 
 pub returns : goal.returns
 returns g c =
