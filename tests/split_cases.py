@@ -509,6 +509,8 @@ def folders_that_cannot_be_written(folder: Path) -> None:
     who = {"user": NOBODY, "group": NOBODY, "extra_groups": []} if os.geteuid() == 0 else {}
     folder.chmod(0o755)
     (folder / "parts").mkdir(0o555)
-    path, bundle = shutil.copy(program(), folder / "sioaudit"), shutil.copy(EXAMPLE, folder)
+    path, bundle = folder / "sioaudit", shutil.copy(EXAMPLE, folder)
+    # By a process of its own: what this one has open to write, a process that another thread begins may have open still.
+    subprocess.run(["cp", program(), path], check=True)
     words = [path, "split", "--parts", "2", "--into", folder / "parts", bundle]
     is_failed(subprocess.run(words, stdin=subprocess.DEVNULL, capture_output=True, timeout=SECONDS, **who), folder / "parts")
