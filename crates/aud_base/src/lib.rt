@@ -45,6 +45,7 @@ mod parallel;
 mod places;
 mod pool;
 mod run_fault;
+mod short_text;
 mod streams;
 mod text;
 mod version;

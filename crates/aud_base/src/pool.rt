@@ -53,10 +53,14 @@ impl TextPool {
         }
     }
 
-    /// The text, shared with the pool, which copies it where it has none that is the same.
+    /// The text. A short one is copied; any other is shared with the pool, which copies it where it has none that is the
+    /// same.
     pub fn text(&mut self, text: &str) -> Result<Text, AllocError>
-        ensures { IfOk result (λ shared. shared ≡ text.now) }
+        ensures { IfOk result (λ same. same ≡ text.now) }
     {
+        if let Some(short) = Text::short(text) {
+            return Ok(short);
+        }
         let hash = self.hash_of(text);
         match self.find_at(hash, text) {
             Some(found) => found.share(),
@@ -68,7 +72,7 @@ impl TextPool {
     fn keep(&mut self, hash: u64, text: &str) -> Result<Text, AllocError>
         ensures { IfOk result (λ kept. kept ≡ text.now) }
     {
-        let own = Text::new(self.alloc, text)?;
+        let own = Text::shared(self.alloc, text)?;
         self.by_hash.insert(hash, own.share()?)?;
         Ok(own)
     }
