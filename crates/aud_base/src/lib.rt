@@ -53,7 +53,7 @@ mod watched;
 
 pub use listed::{Blobs, Bytes, Listed, Texts};
 pub use paged::Paged;
-pub use parallel::try_map;
+pub use parallel::{numbers_to, try_map};
 pub use places::Places;
 pub use pool::TextPool;
 pub use run_fault::RunFault;

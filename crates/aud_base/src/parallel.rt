@@ -1,9 +1,10 @@
 //! Work on the items of a slice that is shared out among threads.
 
-ghost use Rattle.std.specs.Prelude.{◌<◌, ◌≤◌, All, IfOk, Ok};
+ghost use Rattle.std.specs.Prelude.{◌≡◌, ◌<◌, ◌≤◌, All, IfOk, Ok};
 ghost use Rattle.std.specs.Fn.{FnReturnsAt};
 ghost use Rattle.std.specs.List.{AllZip};
 ghost use Rattle.aud_base.specs.Calls.{TakesAt};
+ghost use Rattle.aud_base.specs.Lists.{numbers_from};
 
 use rayon::prelude::*;
 use std::alloc::{AllocError, Global};
@@ -48,4 +49,15 @@ pub fn try_map<
         Ok(all) => all,
         Err(_) => Err(AllocError),
     }
+}
+
+/// The numbers from 0 on, so many: the items where work is shared out by places.
+pub fn numbers_to(alloc: Global, count: usize) -> Result<Vec<usize>, AllocError>
+    ensures { IfOk result (λ numbers. numbers.items ≡ numbers_from 0 count) }
+{
+    let mut numbers = Vec::with_capacity(alloc, count)?;
+    for number in 0..count {
+        numbers.push(number)?;
+    }
+    Ok(numbers)
 }
