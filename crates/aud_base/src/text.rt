@@ -92,7 +92,6 @@ fn array_of<const CAP: usize>(
 
 /// A name, an offset, a pid, a room or any other text of a record, seen as its bytes. One of at most 15 bytes takes no
 /// memory beside the value; what shares a longer one has the same copy.
-#[derive(Drop)]
 pub struct Text {
     block: Block,
 }
@@ -150,6 +149,14 @@ impl Text {
         ensures { result.now ≡ self.now }
     {
         self.block.as_str()
+    }
+}
+
+/// So that whoever drops a record drops its texts by a call, where one that is derived would look into their blocks.
+impl Drop for Text {
+    fn drop(self) {
+        let Text { block } = self;
+        drop(block);
     }
 }
 
