@@ -28,13 +28,6 @@ impl TextPool {
         }
     }
 
-    /// The pool's own text that is the same, borrowed.
-    pub fn find(&self, text: &str) -> Option<&Text>
-        ensures { IfSome result (λ found. found.now ≡ text.now) }
-    {
-        self.find_at(self.hash_of(text), text)
-    }
-
     /// The hash under which the text is kept.
     fn hash_of(&self, text: &str) -> u64 {
         let bytes = text.as_bytes();
