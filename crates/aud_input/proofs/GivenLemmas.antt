@@ -172,10 +172,6 @@ among-next new old rest all line first others l is = elim (in-either new rest l 
   | inr there ↦ others l (in-after old (line ∷ rest) l (in-after (line ∷ []) rest l there))
 ]
 
--- where one more line is refused, those that wait are among all
-pub among-last : (new old rest all : List Line) (line : Line) → AreAmong new (old ++ line ∷ []) → AreAmong (old ++ line ∷ rest) all → AreAmong new all
-among-last new old rest all line first others l is = among-next new old rest all line first others l (in-front new rest l is)
-
 -- at the end of the lines to come
 pub among-end : (new rest all : List Line) → AreAmong (new ++ rest) all → AreAmong new all
 among-end new rest all others l is = others l (in-front new rest l is)

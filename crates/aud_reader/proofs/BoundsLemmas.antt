@@ -5,7 +5,7 @@ use Rattle.std.proofs.Math.Seq.{take-length}
 use Rattle.std.proofs.lemmas.List.{map-append}
 use Rattle.aud_reader.specs.declared.line.Line.{Line}
 use Rattle.aud_reader.specs.declared.lines.Bounds.{Bounds}
-use Rattle.aud_reader.specs.Private.Bounds.{AreWithin, line_at, lines_at}
+use Rattle.aud_reader.specs.Private.Bounds.{AreWithin, line_within, lines_at}
 
 -- what stands within the front is there still
 slice-front : (bytes more : List ℕ) (start n : ℕ) → start + n ≤ length bytes → take n (drop start (bytes ++ more)) ≡ take n (drop start bytes)
@@ -39,15 +39,15 @@ lines_at-append bytes more [] within = refl
 lines_at-append bytes more (at ∷ bounds) within =
     let first : at.start + at.length ≤ length bytes = within 0 at (omega arith) in
     ap (λ (slice : List ℕ). record { number = at.number; bytes = slice } ∷ lines_at (bytes ++ more) bounds) (slice-front bytes more at.start at.length first)
-    ∙ ap (λ ls. line_at bytes at ∷ ls) (lines_at-append bytes more bounds (all-tail (IsWithin bytes) at bounds within))
+    ∙ ap (λ ls. line_within bytes at ∷ ls) (lines_at-append bytes more bounds (all-tail (IsWithin bytes) at bounds within))
 
 -- one more stands after them
 pub lines_at-push : (bytes : List ℕ) (line : Line) (bounds : List Bounds) (at : Bounds) → AreWithin bytes bounds → at.number ≡ line.number → at.start ≡ length bytes → at.length ≡ length line.bytes
     → lines_at (bytes ++ line.bytes) (bounds ++ at ∷ []) ≡ lines_at bytes bounds ++ line ∷ []
 lines_at-push bytes line bounds at within number start size =
-    map-append (line_at (bytes ++ line.bytes)) bounds (at ∷ [])
-    ∙ ap (λ ls. ls ++ line_at (bytes ++ line.bytes) at ∷ []) (lines_at-append bytes line.bytes bounds within)
+    map-append (line_within (bytes ++ line.bytes)) bounds (at ∷ [])
+    ∙ ap (λ ls. ls ++ line_within (bytes ++ line.bytes) at ∷ []) (lines_at-append bytes line.bytes bounds within)
     ∙ ap (λ l. lines_at bytes bounds ++ l ∷ []) one
   where
-    one : line_at (bytes ++ line.bytes) at ≡ line
+    one : line_within (bytes ++ line.bytes) at ≡ line
     one = rw (number, start, size, slice-last bytes line.bytes) refl

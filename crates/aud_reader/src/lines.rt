@@ -1,6 +1,6 @@
 //! Lines one after the other.
 ghost use Rattle.std.specs.Prelude.{◌≡◌, ◌+◌, ◌≤◌, ◌++◌, ◌∷◌, [], length, IfOk, IfErr, OnOk};
-ghost use Rattle.aud_reader.specs.Private.Bounds.{line_at};
+ghost use Rattle.aud_reader.specs.Private.Bounds.{line_within};
 
 use crate::line::LentLine;
 use std::alloc::{AllocError, Global};
@@ -38,7 +38,7 @@ impl Model for Lines {
 /// The line that stands there.
 fn lent_line(bytes: &[u8], at: Bounds) -> LentLine<'_>
     requires within { at.start + at.length ≤ length bytes.now }
-    ensures { result ≡ line_at bytes.now at }
+    ensures { result ≡ line_within bytes.now at }
 {
     LentLine {
         number: at.number,
@@ -47,6 +47,7 @@ fn lent_line(bytes: &[u8], at: Bounds) -> LentLine<'_>
 }
 
 impl Lines {
+    /// No lines, and no room for any.
     pub fn new(alloc: Global) -> Lines
         ensures { result ≡ [] }
     {

@@ -5,12 +5,12 @@ use Rattle.aud_reader.specs.declared.line.Line.{Line}
 use Rattle.aud_reader.specs.declared.lines.Bounds.{Bounds}
 
 -- the line that stands there among the bytes
-abbrev pub line_at : List ℕ → Bounds → Line
-line_at bytes at = record { number = at.number; bytes = take at.length (drop at.start bytes) }
+abbrev pub line_within : List ℕ → Bounds → Line
+line_within bytes at = record { number = at.number; bytes = take at.length (drop at.start bytes) }
 
 -- the lines that stand there
 abbrev pub lines_at : List ℕ → List Bounds → List Line
-lines_at bytes bounds = map (line_at bytes) bounds
+lines_at bytes bounds = map (line_within bytes) bounds
 
 -- each stands within the bytes
 abbrev pub AreWithin : List ℕ → List Bounds → Type 0
