@@ -13,7 +13,6 @@ pub mod ConnectionLemmas
 pub mod ClientLemmas
 pub mod ClientTaps
 pub mod KnownLemmas
-pub mod Mapped
 pub mod KeptRecords
 pub mod Payloads
 pub mod PlacedIn

@@ -1,7 +1,6 @@
 //! What the clients' taps tell, and which of them name which session.
 ghost use Rattle.std.specs.Prelude.{◌≡◌, IfOk, OnOk, length, map};
 ghost use Rattle.std.specs.Option.{option_copied};
-ghost use Rattle.aud_base.specs.Lists.{numbers_from};
 ghost use Rattle.aud_base.specs.Places.{noted, places_of};
 ghost use Rattle.aud_node.specs.Stream.{Text};
 ghost use Rattle.aud_client.specs.Received.{transcript_at};
@@ -9,7 +8,7 @@ ghost use Rattle.aud_client.specs.Private.Clients.{AreRead, has_naming_stay, nam
 
 use crate::by_session::note_stays;
 use crate::indexed_transcript::IndexedTranscript;
-use aud_base::{Places, try_map};
+use aud_base::{Places, numbers_to, try_map};
 use aud_node::Logs;
 use aud_tap::Tap;
 use std::alloc::{AllocError, Global};
@@ -56,7 +55,7 @@ fn transcripts_of<'a, H: Threads + Sync>(
     ensures { IfOk result (λ transcripts. transcripts.items
         ≡ map (transcript_in logs.now.stream) logs.now.taps) }
 {
-    let places = places_of_all(alloc, logs.taps())?;
+    let places = numbers_to(alloc, logs.taps().len())?;
     try_map(
         rt,
         alloc,
@@ -67,17 +66,6 @@ fn transcripts_of<'a, H: Threads + Sync>(
                 ≡ transcript_at logs.entry.now place.now) }
         { transcript_at(alloc, keys, logs, *place) },
     )
-}
-
-/// The places of the taps, in their order.
-fn places_of_all(alloc: Global, taps: &[Tap]) -> Result<Vec<usize>, AllocError>
-    ensures { IfOk result (λ places. places.items ≡ numbers_from 0 (length taps.now)) }
-{
-    let mut places = Vec::with_capacity(alloc, taps.len())?;
-    for place in 0..taps.len() {
-        places.push(place)?;
-    }
-    Ok(places)
 }
 
 /// What the tap at the place tells, if it is a client's.

@@ -36,7 +36,7 @@ impl<'a> Model for Recording<'a> {
 }
 
 impl<'a> Recording<'a> {
-    /// Reads the taps, those of clients in at most so many threads: with 0 or 1 none is started. How many there are
+    /// Reads the taps, in at most so many threads: with 0 or 1 none is started. How many there are
     /// changes nothing in what is read. A client's packets are dropped record after record: what the stays keep of them
     /// is moved out. Names, pids and offsets are hashed with these keys.
     pub fn read<H: Threads + Sync>(
@@ -49,7 +49,7 @@ impl<'a> Recording<'a> {
         requires { AreNamedOnce taps.now }
         ensures { IfOk result (λ recording. recording ≡ cluster_of taps.now) }
     {
-        let logs = Logs::build(alloc, keys, taps)?;
+        let logs = Logs::build_in_threads(rt, alloc, keys, threads, taps)?;
         let clients = Clients::read(rt, alloc, keys, threads, &logs)?;
         Ok(Recording { logs, clients })
     }

@@ -11,3 +11,5 @@ pub mod KnownLemmas
 pub mod KnownIndexLemmas
 pub mod EndingLemmas
 pub mod NodePids
+pub mod Mapped
+pub mod NodePlaces

@@ -11,3 +11,4 @@ pub mod StreamIndex
 pub mod TurnIndex
 pub mod OffsetIndex
 pub mod NodePids
+pub mod TapsOfNodes

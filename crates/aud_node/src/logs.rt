@@ -6,16 +6,19 @@ ghost use Rattle.aud_node.specs.NodeTaps.{node_at, node_tap, client_at, client_r
 ghost use Rattle.aud_node.specs.Names.{place_of};
 ghost use Rattle.aud_node.specs.NamedPids.{named_pids};
 ghost use Rattle.aud_node.specs.OwnPlaces.{own_places};
+ghost use Rattle.aud_node.specs.Private.TapsOfNodes.{is_node, node_in, node_places_from};
 
 use crate::by_name::{nodes_by_pid, taps_by_name};
 use crate::node_log::NodeLog;
+use crate::recoverable::{recoverable_in_threads, recoverable_of};
 use crate::rest::Rest;
 use crate::stream::Stream;
-use aud_base::Places;
+use aud_base::{Places, try_map};
 use aud_tap::{ClientRec, Records, StreamRec, Tap, Taps};
 use std::alloc::{AllocError, Global};
 use std::hash::RandomState;
 use std::marker::Model;
+use std::thread::Threads;
 
 /// The taps, borrowed, with what was made once of the stream and of the nodes: seen as the cluster. A tap is named by
 /// its place, which counts from 0 in the order of the headers.
@@ -49,9 +52,49 @@ impl<'a> Logs<'a> {
         ensures { IfOk result (λ logs. logs ≡ cluster_of taps.now) }
     {
         let taps = taps.as_slice();
-        let names = taps_by_name(alloc, keys, taps)?;
-        let stream = Stream::build(alloc, keys, entries_of(taps))?;
+        let entries = entries_of(taps);
+        let recoverable = recoverable_of(alloc, &entries)?;
+        let stream = Stream::build(alloc, keys, entries, recoverable)?;
         let nodes = nodes_of(alloc, keys, &stream, taps)?;
+        Logs::of(alloc, keys, taps, stream, nodes)
+    }
+
+    /// The same in at most so many threads, which share out the nodes, and the entries to be looked at for which are
+    /// sent again after a recovery: with 0 or 1 none is started. How many there are changes nothing in the logs.
+    pub fn build_in_threads<H: Threads + Sync>(
+        rt: &H,
+        alloc: Global,
+        keys: RandomState,
+        threads: usize,
+        taps: &'a Taps,
+    ) -> Result<Logs<'a>, AllocError>
+        ensures { IfOk result (λ logs. logs ≡ cluster_of taps.now) }
+    {
+        if threads < 2 {
+            return Logs::build(alloc, keys, taps);
+        }
+        let taps = taps.as_slice();
+        let entries = entries_of(taps);
+        let recoverable = recoverable_in_threads(rt, alloc, threads, &entries)?;
+        let stream = Stream::build(alloc, keys, entries, recoverable)?;
+        let all = Streamed { taps, stream };
+        let nodes = nodes_in_threads(rt, alloc, keys, threads, &all)?;
+        Logs::of(alloc, keys, taps, all.stream, nodes)
+    }
+
+    /// The logs of the taps, of which these are the stream and the nodes' logs.
+    fn of(
+        alloc: Global,
+        keys: RandomState,
+        taps: &'a [Tap],
+        stream: Stream<'a>,
+        nodes: Vec<Option<NodeLog<'a>>>,
+    ) -> Result<Logs<'a>, AllocError>
+        requires stream { stream ≡ stream_of taps.now }
+        requires nodes { nodes.items ≡ map (node_tap stream) taps.now }
+        ensures { IfOk result (λ logs. logs ≡ cluster_of taps.now) }
+    {
+        let names = taps_by_name(alloc, keys, taps)?;
         let own = nodes_by_pid(alloc, keys, &nodes)?;
         Ok(Logs {
             keys,
@@ -190,6 +233,101 @@ fn nodes_of<'a>(
         nodes.push(node_of(alloc, keys, stream, tap)?)?;
     }
     Ok(nodes)
+}
+
+/// The taps, and the stream that their nodes take from.
+#[derive(Drop)]
+struct Streamed<'a> {
+    taps: &'a [Tap],
+    stream: Stream<'a>,
+}
+
+/// The node's log of each tap that is a node's, made in at most so many threads.
+fn nodes_in_threads<'a, H: Threads + Sync>(
+    rt: &H,
+    alloc: Global,
+    keys: RandomState,
+    threads: usize,
+    all: &Streamed<'a>,
+) -> Result<Vec<Option<NodeLog<'a>>>, AllocError>
+    ensures { IfOk result (λ nodes. nodes.items ≡ map (node_tap all.now.stream) all.now.taps.now) }
+{
+    let places = places_of_nodes(alloc, all.taps)?;
+    let logs = try_map(
+        rt,
+        alloc,
+        threads,
+        places.as_slice(),
+        |place: &usize| -> Result<Option<NodeLog<'_>>, AllocError>
+            ensures { IfOk result (λ node. node
+                ≡ node_in all.entry.now.stream all.entry.now.taps.now place.now) }
+        { node_in(alloc, keys, all, *place) },
+    )?;
+    at_their_places(alloc, all, logs)
+}
+
+/// The logs at the places of their taps.
+fn at_their_places<'a>(
+    alloc: Global,
+    all: &Streamed<'a>,
+    logs: Vec<Option<NodeLog<'a>>>,
+) -> Result<Vec<Option<NodeLog<'a>>>, AllocError>
+    requires { logs.items ≡ map (node_in all.now.stream all.now.taps.now)
+        (node_places_from all.now.taps.now 0 (length all.now.taps.now)) }
+    ensures { IfOk result (λ nodes. nodes.items ≡ map (node_tap all.now.stream) all.now.taps.now) }
+{
+    let mut logs = logs.into_iter();
+    let mut nodes = Vec::with_capacity(alloc, all.taps.len())?;
+    for place in 0..all.taps.len() {
+        if is_node(&all.taps[place]) {
+            let Some(log) = logs.next() else {
+                unreachable!()
+            };
+            nodes.push(log)?;
+        } else {
+            nodes.push(None)?;
+        }
+    }
+    Ok(nodes)
+}
+
+/// The places, ascending, of the taps that are nodes'.
+fn places_of_nodes(alloc: Global, taps: &[Tap]) -> Result<Vec<usize>, AllocError>
+    ensures { IfOk result (λ places. places.items ≡ node_places_from taps.now 0 (length taps.now)) }
+{
+    let mut places = Vec::new(alloc);
+    for place in 0..taps.len() {
+        if is_node(&taps[place]) {
+            places.push(place)?;
+        }
+    }
+    Ok(places)
+}
+
+/// The log of the node whose tap is at the place; none where that tap is no node's.
+fn node_in<'a>(
+    alloc: Global,
+    keys: RandomState,
+    all: &Streamed<'a>,
+    place: usize,
+) -> Result<Option<NodeLog<'a>>, AllocError>
+    ensures { IfOk result (λ node. node ≡ node_in all.now.stream all.now.taps.now place) }
+{
+    match all.taps.get(place) {
+        Some(tap) => node_of(alloc, keys, &all.stream, tap),
+        None => Ok(None),
+    }
+}
+
+/// Whether the tap is a node's.
+fn is_node(tap: &Tap) -> bool
+    ensures { result ≡ is_node tap.now }
+{
+    match &tap.records {
+        Records::Stream(_) => false,
+        Records::Node(_) => true,
+        Records::Client(_) => false,
+    }
 }
 
 /// The node's log, if the tap is a node's.

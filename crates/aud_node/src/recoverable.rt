@@ -1,12 +1,15 @@
 //! Which entries a server sends again after a recovery.
-ghost use Rattle.std.specs.Prelude.{◌≡◌, IfOk, map};
+ghost use Rattle.std.specs.Prelude.{◌≡◌, IfOk, map, slice_get};
 ghost use Rattle.aud_sio.specs.Packet.{packet_view};
+ghost use Rattle.aud_node.specs.AtPosition.{is_some_recoverable};
 ghost use Rattle.aud_node.specs.Recoverable.{is_recoverable, is_packet_of, is_event};
 
 use crate::rest::Rest;
+use aud_base::{numbers_to, try_map};
 use aud_sio::{Packet, PacketKind, Scratch, SioFault, decode_with, last_text};
 use aud_tap::{Event, StreamRec};
 use std::alloc::{AllocError, Global};
+use std::thread::Threads;
 
 /// Of each entry, whether it is recoverable.
 pub fn recoverable_of(alloc: Global, entries: &Rest<'_, StreamRec>) -> Result<Vec<bool>, AllocError>
@@ -18,6 +21,42 @@ pub fn recoverable_of(alloc: Global, entries: &Rest<'_, StreamRec>) -> Result<Ve
         flags.push(is_recoverable(alloc, &mut scratch, entries.at(i))?)?;
     }
     Ok(flags)
+}
+
+/// The same in at most so many threads.
+pub fn recoverable_in_threads<H: Threads + Sync>(
+    rt: &H,
+    alloc: Global,
+    threads: usize,
+    entries: &Rest<'_, StreamRec>,
+) -> Result<Vec<bool>, AllocError>
+    ensures { IfOk result (λ flags. flags.items ≡ map is_recoverable entries.now) }
+{
+    let places = numbers_to(alloc, entries.len())?;
+    try_map(
+        rt,
+        alloc,
+        threads,
+        places.as_slice(),
+        |place: &usize| -> Result<bool, AllocError>
+            ensures { IfOk result (λ answer. answer
+                ≡ is_some_recoverable (slice_get entries.entry.now place.now)) }
+        { recoverable_at(alloc, entries, *place) },
+    )
+}
+
+/// Whether the entry at the place is recoverable; false where there is none.
+fn recoverable_at(
+    alloc: Global,
+    entries: &Rest<'_, StreamRec>,
+    place: usize,
+) -> Result<bool, AllocError>
+    ensures { IfOk result (λ answer. answer ≡ is_some_recoverable (slice_get entries.now place)) }
+{
+    match entries.get(place) {
+        Some(entry) => is_recoverable(alloc, &mut Scratch::new(alloc), entry),
+        None => Ok(false),
+    }
 }
 
 /// Whether the entry is an event that a server sends again.

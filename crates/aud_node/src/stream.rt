@@ -1,8 +1,9 @@
 //! The stream's entries.
-ghost use Rattle.std.specs.Prelude.{◌≡◌, IfOk, IfSome, Some, option_map, slice_get};
+ghost use Rattle.std.specs.Prelude.{◌≡◌, IfOk, IfSome, Some, map, option_map, slice_get};
 ghost use Rattle.std.specs.Option.{option_copied};
 ghost use Rattle.aud_node.specs.Stream.{position, entry};
 ghost use Rattle.aud_node.specs.AtPosition.{is_recoverable_at};
+ghost use Rattle.aud_node.specs.Recoverable.{is_recoverable};
 ghost use Rattle.aud_node.specs.Private.NextPosition.{next_position};
 ghost use Rattle.aud_node.specs.Addressees.{positions_excepting, positions_to_all, positions_to_room};
 ghost use Rattle.aud_node.specs.Known.{known_entry};
@@ -14,7 +15,6 @@ use crate::fields::offset;
 use crate::hints::Hints;
 use crate::known::{KnownEvent, KnownTexts, ending, is_sent_as};
 use crate::offsets::Offsets;
-use crate::recoverable::recoverable_of;
 use crate::rest::Rest;
 use aud_tap::StreamRec;
 use std::alloc::{AllocError, Global};
@@ -46,15 +46,17 @@ impl<'a> Model for Stream<'a> {
 }
 
 impl<'a> Stream<'a> {
+    /// The stream of the entries, of which the flags say whether they are recoverable.
     pub(crate) fn build(
         alloc: Global,
         keys: RandomState,
         entries: Rest<'a, StreamRec>,
+        recoverable: Vec<bool>,
     ) -> Result<Stream<'a>, AllocError>
+        requires { recoverable.items ≡ map is_recoverable entries }
         ensures { IfOk result (λ stream. stream ≡ entries.entry) }
     {
         let offsets = Offsets::build(alloc, keys, &entries)?;
-        let recoverable = recoverable_of(alloc, &entries)?;
         let addressees = Addressees::build(alloc, keys, &entries, &recoverable)?;
         let (known, hints) = KnownTexts::build(alloc, keys, &entries, &recoverable, &offsets)?;
         Ok(Stream {

@@ -176,7 +176,7 @@ fn split_servers<'x, H: Threads + Sync>(
         kinds: servers.kinds.as_slice(),
         lines: servers.lines.as_slice(),
     };
-    let Ok(logs) = Logs::build(alloc, keys, &servers.taps) else {
+    let Ok(logs) = Logs::build_in_threads(rt, alloc, keys, threads, &servers.taps) else {
         return Err(fail(host, RunFault::Memory));
     };
     let logs = ManuallyDrop::new(logs);
