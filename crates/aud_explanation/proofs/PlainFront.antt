@@ -7,7 +7,8 @@ use Rattle.std.proofs.lemmas.Str.{encode_ascii, chars-nil, chars-append, chars-I
 use Rattle.std.proofs.lemmas.Bool.{and_parts, or_right}
 use Rattle.std.proofs.lemmas.Bool.Decides.{nat_tests}
 use Rattle.std.proofs.lemmas.List.Folds.{list_all-append}
-use Rattle.aud_explanation.specs.Page.{columns, fits, word_fits, ends_line, laid, next_line, is_plain, ends_word, stays_together}
+use Rattle.aud_explanation.specs.Page.{columns, fits, word_fits, ends_line, laid, next_line}
+use Rattle.aud_explanation.specs.Private.Front.{is_plain, ends_word, stays_together}
 use Rattle.aud_explanation.specs.Printed.{is_format, shown}
 
 -- ---- a plain character

@@ -33,3 +33,4 @@ pub mod JsonEvent
 pub mod JsonCause
 pub mod Json
 pub mod WholeRecord
+pub mod Private

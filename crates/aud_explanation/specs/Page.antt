@@ -1,8 +1,6 @@
 -- How lines of text are laid out: at most 100 columns, a character a column, cut at blanks where a word does not fit.
 use Rattle.std.specs.Prelude.{ℕ, ◌+◌, ◌-◌, Bool, true, false, not, ◌||◌, ◌==◌, List, [], ◌∷◌, ◌++◌, codes, length, replicate, nat_le, if◌then◌else◌}
 use Rattle.std.specs.Char.{is_control}
-use Rattle.std.specs.Int.{is_in_range}
-use Rattle.std.specs.List.{list_all}
 use Rattle.std.specs.Str.{chars}
 use Rattle.aud_explanation.specs.Printed.{is_format, shown}
 
@@ -56,16 +54,3 @@ to_left width text = text ++ blanks (width - length text)
 -- the text, and blanks before it up to the width
 abbrev pub to_right : ℕ → List ℕ → List ℕ
 to_right width text = blanks (width - length text) ++ text
-
--- a character that is shown as itself in one column
-abbrev pub is_plain : ℕ → Bool
-is_plain c = is_in_range 32 91 c || is_in_range 93 126 c
-
--- whether no word goes on there: at the end, or at a blank
-abbrev pub ends_word : List ℕ → Bool
-ends_word [] = true
-ends_word (c ∷ cs) = c == 32
-
--- whether no line ends among these characters where they fit: a word ends with them, or they have no blank
-abbrev pub stays_together : List ℕ → List ℕ → Bool
-stays_together front rest = ends_word rest || list_all (λ c. not (c == 32)) front

@@ -2,7 +2,8 @@
 ghost use Rattle.std.specs.Prelude.{◌≡◌, ◌+◌, ◌++◌, ◌≤◌, true, IfOk, OnOk, drop, length, take, string_bytes};
 ghost use Rattle.std.specs.List.{list_all};
 ghost use Rattle.std.specs.Str.{IsUtf8, chars};
-ghost use Rattle.aud_explanation.specs.Page.{columns, fits, word_fits, ends_line, placed, next_column, laid, laid_line, blanks, to_left, to_right, is_plain, stays_together};
+ghost use Rattle.aud_explanation.specs.Page.{columns, fits, word_fits, ends_line, placed, next_column, laid, laid_line, blanks, to_left, to_right};
+ghost use Rattle.aud_explanation.specs.Private.Front.{is_plain, stays_together};
 
 use crate::escape::{is_format, push_shown};
 use std::alloc::AllocError;

@@ -1,7 +1,7 @@
 use Rattle.std.proofs.Common.{◌≡◌, ◌<◌, ◌≤◌, true, not, eqb, get_or, take}
 use Rattle.std.specs.List.{list_all}
 use Rattle.std.specs.Option.{MatchOption}
-use Rattle.aud_explanation.specs.Page.{is_plain}
+use Rattle.aud_explanation.specs.Private.Front.{is_plain}
 use Rattle.aud_explanation.proofs.text.page.front_len.Given as goal
 
 -- so far all are plain, and the last blank is known

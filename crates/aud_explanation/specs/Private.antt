@@ -1,0 +1,2 @@
+-- What contracts of private functions alone cite. No public clause rests on these words.
+pub mod Front
