@@ -1,5 +1,5 @@
 //! The arguments of `explain`.
-ghost use Rattle.std.specs.Prelude.{◌≡◌, ◌≢◌, ◌≤◌, Some, None, IfErr, IfOk, IfSome, option_map, slice_get};
+ghost use Rattle.std.specs.Prelude.{◌≡◌, ◌++◌, ◌∷◌, [], OnOk, ◌≢◌, ◌≤◌, Some, None, IfErr, IfOk, IfSome, option_map, slice_get};
 ghost use Rattle.clap.specs.Words.{kind_of};
 ghost use Rattle.aud_cli.specs.ExplainArguments.{AreWithin, asked, asked_by, choices_of, fails_tail, is_mixed, is_page, lacks_whole, no_choices, options_of, records_of, shows_tail, with_fail_on, with_form, with_given, with_lines, with_only, with_pid, with_quiet, with_record, with_whole, with_workers};
 
@@ -237,6 +237,21 @@ fn is_mixed(choices: Choices) -> bool
         || is_page(choices.form)
 }
 
+/// Puts the record of this number of the tap after the others.
+fn push_named(
+    alloc: Global,
+    records: &mut Vec<NamedRecord>,
+    tap: &str,
+    number: u64,
+) -> Result<(), AllocError>
+    ensures { OnOk result (records.new.items
+        ≡ records.old.items ++ record { tap = tap.now; number = number } ∷ []) }
+{
+    let tap = Text::new(alloc, tap)?;
+    records.push(NamedRecord { tap, number })?;
+    Ok(())
+}
+
 /// The records whose numbers are named; none where a `--record` has no number.
 fn records_of(alloc: Global, all: &[Given<'_>]) -> Result<Option<Listed<NamedRecord>>, AllocError>
     ensures { IfOk result (λ records. records ≡ records_of all.now) }
@@ -249,8 +264,7 @@ fn records_of(alloc: Global, all: &[Given<'_>]) -> Result<Option<Listed<NamedRec
             let Some(number) = number_in(given.value()) else {
                 return Ok(None);
             };
-            let tap = Text::new(alloc, tap)?;
-            records.push(NamedRecord { tap, number })?;
+            push_named(alloc, &mut records, tap, number)?;
             lacks = false;
         } else if lacks {
             return Ok(None);

@@ -1,5 +1,5 @@
 //! Texts, lists of them, lists in pages, places and pools, over the public calls of `aud_base`.
-use aud_base::{Paged, Places, Text, TextPool, Texts};
+use aud_base::{Paged, Places, Text, TextPool, Texts, numbers_to};
 use std::alloc::{AllocError, Global};
 use std::hash::RandomState;
 use std::test::Fail;
@@ -115,6 +115,7 @@ fn texts_and_lists(rt: HostRuntime) -> Result<(), Fail> {
     assert!(rt; pools_texts(rt.alloc(), keys)?);
     for count in [0, 1, 4_096, 4_097, 9_000] {
         assert!(rt; pages_numbers(rt.alloc(), count)?, "{count} numbers");
+        assert!(rt; are_numbers(&numbers_to(rt.alloc(), count)?, count), "{count} numbers");
     }
     Ok(())
 }
