@@ -29,6 +29,16 @@ use Rattle.aud_parts.proofs.NumberLemmas.{number-back, decimal-without}
 abbrev pub with_sessions : List ListedSession → Result (List ListedSession) ListingFault → Result (List ListedSession) ListingFault
 with_sessions front rest = rest >>= (λ ss. Ok (front ++ ss))
 
+-- after one more line
+pub sessions_next : (parts : ℕ) (line : List ℕ) (lines : List (List ℕ)) (front : List ListedSession) (session : ListedSession) → session_in parts line ≡ Ok session
+    → with_sessions front (sessions_in parts (line ∷ lines)) ≡ with_sessions (front ++ session ∷ []) (sessions_in parts lines)
+sessions_next parts line lines front session is =
+    ap (λ r. with_sessions front (r >>= (λ s. sessions_in parts lines >>= (λ ss. Ok (s ∷ ss))))) is ∙ onto (sessions_in parts lines)
+  where
+    onto : (rest : Result (List ListedSession) ListingFault) → with_sessions front (rest >>= (λ ss. Ok (session ∷ ss))) ≡ with_sessions (front ++ session ∷ []) rest
+    onto (Ok ss) = ap Ok (sym (append_assoc front (session ∷ []) ss))
+    onto (Err e) = refl
+
 -- after all lines
 pub sessions-done : (parts : ℕ) (lines : List (List ℕ)) (i : ℕ) (front : List ListedSession) → length lines ≤ i
     → with_sessions front (sessions_in parts (drop i lines)) ≡ sessions_in parts lines → sessions_in parts lines ≡ Ok front

@@ -1,5 +1,5 @@
 -- What the text of a part's lines reads as.
-use Rattle.std.proofs.Common.{◌≡◌, ℕ, ◌+◌, ◌^◌, ◌<◌, ◌≤◌, ◌==◌, ◌&&◌, not, nat_lt, nat_le, List, [], ◌∷◌, ◌++◌, length, map, take, true, false, Option, Some, None, option_map, Result, Ok, refl, sym, ap, ◌∙◌, arith, append_assoc, append-nil, flat_map, codes, decimal}
+use Rattle.std.proofs.Common.{◌≡◌, ℕ, ◌+◌, ◌^◌, ◌<◌, ◌≤◌, ◌==◌, ◌&&◌, not, nat_lt, nat_le, List, [], ◌∷◌, ◌++◌, length, map, take, true, false, Option, Some, None, option_map, Result, Ok, Err, refl, sym, ap, ◌∙◌, arith, append_assoc, append-nil, flat_map, codes, decimal}
 use Rattle.std.specs.List.{list_all}
 use Rattle.std.specs.Option.{option_and_then}
 use Rattle.std.specs.Str.{is_utf8}
@@ -13,7 +13,7 @@ use Rattle.aud_input.specs.declared.part_lines.PartLines.{PartLines}
 use Rattle.aud_input.specs.declared.reading.Size.{Size}
 use Rattle.aud_input.specs.LineRuns.{capped, count_of}
 use Rattle.aud_parts.specs.declared.named_lines.fault.LinesFault.{LinesFault}
-use Rattle.aud_parts.specs.declared.named_lines.fault.LinesFault.TheVariants.{NoSize, OtherCount}
+use Rattle.aud_parts.specs.declared.named_lines.fault.LinesFault.TheVariants.{BadLine, NoSize, OtherCount}
 use Rattle.aud_parts.specs.Cut.{cut_at, whole_lines, number_in}
 use Rattle.aud_parts.specs.Listing.{number_under}
 use Rattle.aud_parts.specs.NamedLines.{size_line, run_line, file_line, ended, lines_text, is_run, is_file, are_lines, size_in_words, size_in, run_from, run_in_words, run_in, file_in_words, file_in, runs_in, files_in, part_with, part_after, part_in, part_of}
@@ -26,6 +26,16 @@ use Rattle.aud_parts.proofs.NumberLemmas.{number-back, decimal-without}
 -- files before those that are read
 abbrev pub with_files : List InputFile → Result (List InputFile) LinesFault → Result (List InputFile) LinesFault
 with_files front rest = rest >>= (λ files. Ok (front ++ files))
+
+-- after one more line
+pub files_next : (number : ℕ) (line : List ℕ) (lines : List (List ℕ)) (front : List InputFile) (file : InputFile) → file_in line ≡ Some file
+    → with_files front (files_in number (line ∷ lines)) ≡ with_files (front ++ file ∷ []) (files_in (number + 1) lines)
+files_next number line lines front file is =
+    ap (λ f. with_files front (need (BadLine number) f >>= (λ file. files_in (number + 1) lines >>= (λ files. Ok (file ∷ files))))) is ∙ onto (files_in (number + 1) lines)
+  where
+    onto : (rest : Result (List InputFile) LinesFault) → with_files front (rest >>= (λ files. Ok (file ∷ files))) ≡ with_files (front ++ file ∷ []) rest
+    onto (Ok files) = ap Ok (sym (append_assoc front (file ∷ []) files))
+    onto (Err e) = refl
 
 -- ---- what was written
 
