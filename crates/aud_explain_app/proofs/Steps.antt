@@ -1,9 +1,10 @@
 -- What loops do, one step more.
-use Rattle.std.proofs.Common.{◌≡◌, ◌<◌, ◌≤◌, ◌+◌, ◌-◌, ◌++◌, ◌&&◌, ◌||◌, ℕ, zero, suc, Bool, true, false, not, cond, if◌then◌else◌, List, [], ◌∷◌, length, take, drop, get_or, flat_map, map, Option, Some, option_to_list, slice_get, bytes_eq, refl, sym, ap, subst, ◌∙◌, append_assoc, append-nil, arith}
+use Rattle.std.proofs.Common.{◌≡◌, ◌<◌, ◌≤◌, ◌+◌, ◌-◌, ◌++◌, ◌&&◌, ◌||◌, ℕ, zero, suc, Bool, true, false, not, cond, if◌then◌else◌, List, [], ◌∷◌, length, take, drop, get_or, flat_map, map, Option, Some, option_to_list, slice_get, bytes_eq, eqb, refl, sym, ap, subst, ◌∙◌, append_assoc, append-nil, arith}
 use Rattle.std.specs.List.{AllZip}
 use Rattle.std.proofs.lemmas.List.Folds.{list_any-append}
 use Rattle.std.proofs.lemmas.List.{drop-drop, length-take-le, map-append, take-append-drop, take_more, take_rest}
-use Rattle.std.proofs.lemmas.List.Elements.{All-append}
+use Rattle.std.proofs.lemmas.Bool.{eqb-true}
+use Rattle.std.proofs.lemmas.List.Elements.{All-append, All-cons, All-nil}
 use Rattle.std.proofs.lemmas.Grind.{flat_map-append}
 use Rattle.aud_base.specs.declared.places.Places.{Places}
 use Rattle.aud_base.specs.Places.{is_place, noted, places_of, places_where}
@@ -96,6 +97,27 @@ known-more old new sessions s was more = λ q.
     ap is_empty (more q) ∙ noted-empty (bytes_eq s.pid q) (places_of old q) ∙ ap (λ b. not (bytes_eq s.pid q) && b) (was q)
     ∙ both-not (has_pid (pids_of sessions) q) (bytes_eq s.pid q)
     ∙ sym (ap not (ap (λ pids. has_pid pids q) (map-append (λ (v : SessionVerdict). v.pid) sessions (s ∷ [])) ∙ list_any-append (λ other. bytes_eq other q) (pids_of sessions) (s.pid ∷ [])))
+
+-- a pid that stands at no place is none of these
+pub not_known : (known : Places) (sessions : List SessionVerdict) (pid : Text) → AreKnown known sessions → eqb (length (places_of known pid)) 0 ≡ true → has_pid (pids_of sessions) pid ≡ false
+not_known known sessions pid are none = go (places_of known pid) (has_pid (pids_of sessions) pid) none (are pid)
+  where
+    go : (places : List ℕ) (has : Bool) → eqb (length places) 0 ≡ true → is_empty places ≡ not has → has ≡ false
+    go [] true none is = is
+    go [] false none is = refl
+    go (x ∷ xs) has none is = let nothing : suc (length xs) ≡ 0 = eqb-true (suc (length xs)) 0 none in absurd (omega arith)
+
+-- the verdict on one more session was added
+pub added_one : (c : Cluster) (whole : Bool) (pid : Text) (s : SessionVerdict) (old new : List SessionVerdict) → IsJudged c whole s → s.pid ≡ pid → has_pid (pids_of old) pid ≡ false → new ≡ old ++ s ∷ []
+    → AreAdded c whole (pid ∷ []) old new
+added_one c whole pid s old new judged is unknown added =
+    record {
+      others = s ∷ [];
+      are_judged = All-cons (IsJudged c whole) s [] judged (All-nil (IsJudged c whole));
+      are_added = added;
+      are_asked = ap pids_of added ∙ map-append (λ (v : SessionVerdict). v.pid) old (s ∷ []) ∙ ap (λ p. pids_of old ++ p ∷ []) is
+          ∙ sym (ap (λ b. if b then pids_of old else pids_of old ++ pid ∷ []) unknown);
+    }
 
 -- the same in a loop
 pub known_item : (old new : Places) (xs : List SessionVerdict) (i : ℕ) (x : SessionVerdict) → i < length xs → x ≡ get_or xs i x → AreKnown old (take i xs)
