@@ -115,7 +115,10 @@ fn texts_and_lists(rt: HostRuntime) -> Result<(), Fail> {
     assert!(rt; pools_texts(rt.alloc(), keys)?);
     for count in [0, 1, 4_096, 4_097, 9_000] {
         assert!(rt; pages_numbers(rt.alloc(), count)?, "{count} numbers");
-        assert!(rt; are_numbers(&numbers_to(rt.alloc(), count)?, count), "{count} numbers");
+        assert!(rt;
+            are_numbers(&numbers_to(rt.alloc(), count)?, count),
+            "{count} numbers"
+        );
     }
     Ok(())
 }
