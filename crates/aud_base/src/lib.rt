@@ -39,6 +39,7 @@
 //! ```
 #![tactic(auto)]
 
+mod ending;
 mod listed;
 mod paged;
 mod parallel;
@@ -51,9 +52,10 @@ mod text;
 mod version;
 mod watched;
 
+pub use ending::mixed_ending;
 pub use listed::{Blobs, Bytes, Listed, Texts};
 pub use paged::Paged;
-pub use parallel::{numbers_to, try_map};
+pub use parallel::{make_room, numbers_to, try_map};
 pub use places::Places;
 pub use pool::TextPool;
 pub use run_fault::RunFault;

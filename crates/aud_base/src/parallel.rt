@@ -51,6 +51,19 @@ pub fn try_map<
     }
 }
 
+/// How much a thread's heap is to grow at once.
+const ROOM: usize = 8_388_608;
+
+/// Asks for a large block and gives it back, so that this thread's heap has room for what comes next, where there is
+/// memory for it. A heap of glibc's that many small blocks are asked of grows by one page a time, and each time all
+/// threads are interrupted; and what they give back goes to the system in small steps, unless a block of this size was
+/// given back.
+pub fn make_room(alloc: Global) {
+    if let Ok(block) = Vec::<u8>::with_capacity(alloc, ROOM) {
+        drop(block);
+    }
+}
+
 /// The numbers from 0 on, so many: the items where work is shared out by places.
 pub fn numbers_to(alloc: Global, count: usize) -> Result<Vec<usize>, AllocError>
     ensures { IfOk result (λ numbers. numbers.items ≡ numbers_from 0 count) }

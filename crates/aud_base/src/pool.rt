@@ -1,48 +1,39 @@
 //! Texts of which each is kept once.
-ghost use Rattle.std.specs.Prelude.{◌≡◌, IfOk, IfSome};
+ghost use Rattle.std.specs.Prelude.{◌≡◌, IfOk};
 
 use crate::Text;
+use crate::ending::mixed_ending;
 use std::alloc::{AllocError, Global};
-use std::collections::HashMap;
 use std::hash::{BuildHasher, Hasher, RandomState};
+use std::mem::replace;
 
-/// The most bytes at the end of a text that are hashed. What tells long texts apart mostly stands there: an event's
-/// text ends in its offset.
-const HASHED: usize = 40;
+/// How many slots a pool begins with.
+const LEAST: usize = 1_024;
 
-/// Texts that are to be shared, each by the hash of its last bytes. Of two texts that have one hash the later is kept.
+/// The most slots of a pool; both are powers of two.
+const MOST: usize = 1_048_576;
+
+/// Texts that are to be shared, each in the slot that its last 16 bytes choose: what tells long texts apart mostly
+/// stands there, since an event's text ends in its offset. Where two texts have one slot, the later is kept.
 #[derive(Drop)]
 pub struct TextPool {
     alloc: Global,
-    keys: RandomState,
-    by_hash: HashMap<u64, Text>,
+    /// What is mixed into the last bytes, so that nobody knows which texts have one slot.
+    key: u64,
+    /// A slot without a text has the empty one.
+    slots: Vec<Text>,
+    /// How many texts were kept.
+    count: usize,
 }
 
 impl TextPool {
-    /// A pool without texts. Its texts are hashed with these keys.
+    /// A pool without texts, whose slots depend on these keys.
     pub fn new(alloc: Global, keys: RandomState) -> TextPool {
         TextPool {
             alloc,
-            keys,
-            by_hash: HashMap::new(alloc),
-        }
-    }
-
-    /// The hash under which the text is kept.
-    fn hash_of(&self, text: &str) -> u64 {
-        let bytes = text.as_bytes();
-        let mut hasher = self.keys.build_hasher();
-        hasher.write(&bytes[bytes.len() - bytes.len().min(HASHED)..]);
-        hasher.finish()
-    }
-
-    /// The pool's own text that is the same, under its hash.
-    fn find_at(&self, hash: u64, text: &str) -> Option<&Text>
-        ensures { IfSome result (λ found. found.now ≡ text.now) }
-    {
-        match self.by_hash.get(&hash) {
-            Some(kept) if kept.as_str() == text => Some(kept),
-            _ => None,
+            key: keys.build_hasher().finish(),
+            slots: Vec::new(alloc),
+            count: 0,
         }
     }
 
@@ -54,19 +45,50 @@ impl TextPool {
         if let Some(short) = Text::short(text) {
             return Ok(short);
         }
-        let hash = self.hash_of(text);
-        match self.find_at(hash, text) {
-            Some(found) => found.share(),
-            None => self.keep(hash, text),
+        match self.slots.get(self.slot_of(text)) {
+            Some(kept) if kept.as_str() == text => kept.share(),
+            _ => self.keep(text),
         }
     }
 
     /// A copy of the text, which the pool shares from then on.
-    fn keep(&mut self, hash: u64, text: &str) -> Result<Text, AllocError>
+    fn keep(&mut self, text: &str) -> Result<Text, AllocError>
         ensures { IfOk result (λ kept. kept ≡ text.now) }
     {
+        if self.slots.len() / 2 <= self.count && self.slots.len() < MOST {
+            self.grow()?;
+        }
         let own = Text::shared(self.alloc, text)?;
-        self.by_hash.insert(hash, own.share()?)?;
+        self.put(own.share()?);
+        self.count = self.count.saturating_add(1);
         Ok(own)
+    }
+
+    /// Puts the text into its slot.
+    fn put(&mut self, text: Text) {
+        let slot = self.slot_of(text.as_str());
+        if let Some(kept) = self.slots.get_mut(slot) {
+            *kept = text;
+        }
+    }
+
+    /// Makes twice as many slots, and puts the texts into theirs.
+    fn grow(&mut self) -> Result<(), AllocError> {
+        let size = self.slots.len().saturating_mul(2).max(LEAST);
+        let mut slots = Vec::with_capacity(self.alloc, size)?;
+        for _ in 0..size {
+            slots.push(Text::new(self.alloc, "")?)?;
+        }
+        for text in replace(&mut self.slots, slots) {
+            if !text.as_str().is_empty() {
+                self.put(text);
+            }
+        }
+        Ok(())
+    }
+
+    /// The slot of the text.
+    fn slot_of(&self, text: &str) -> usize {
+        (mixed_ending(text, 0, self.key) >> 32) as usize & self.slots.len().wrapping_sub(1)
     }
 }

@@ -8,7 +8,7 @@ ghost use Rattle.aud_client.specs.Private.Clients.{AreRead, has_naming_stay, nam
 
 use crate::by_session::note_stays;
 use crate::indexed_transcript::IndexedTranscript;
-use aud_base::{Places, numbers_to, try_map};
+use aud_base::{Places, make_room, numbers_to, try_map};
 use aud_node::Logs;
 use aud_tap::Tap;
 use std::alloc::{AllocError, Global};
@@ -79,6 +79,7 @@ fn transcript_at<'a>(
 {
     match logs.client(place) {
         Some(recs) => {
+            make_room(alloc);
             let transcript = IndexedTranscript::read(alloc, keys, recs, logs.stream())?;
             Ok(Some(transcript))
         }

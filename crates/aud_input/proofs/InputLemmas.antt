@@ -1,10 +1,26 @@
--- What the end of an input brings to its reader.
-use Rattle.std.proofs.Common.{◌≡◌, List, [], ◌++◌, None, Err, sym, ap, ◌∙◌, append-nil}
+-- What lines that wait, and the end of an input, bring to its reader.
+use Rattle.std.proofs.Common.{◌≡◌, List, [], ◌∷◌, ◌++◌, None, Err, refl, sym, ap, ◌∙◌, append-nil, append_assoc}
 use Rattle.aud_reader.specs.declared.line.Line.{Line}
 use Rattle.aud_reader.specs.declared.fault.ReadFault.{ReadFault}
 use Rattle.aud_reader.specs.Lines.{lines_to_come}
 use Rattle.aud_reader.specs.Bundle.{unless_refused}
+use Rattle.aud_input.specs.declared.input.Layout.TheVariants.{Bundle}
+use Rattle.aud_input.specs.Input.{bundle_in, certificates_in}
 use Rattle.aud_input.specs.Reader.{PartsSoFar, InputSoFar, parts_to_come, input_over, input_to_come}
+
+-- none of a bundle's lines is a certificate
+no_certificates : (lines : List Line) → certificates_in Bundle lines ≡ []
+no_certificates [] = refl
+no_certificates (line ∷ lines) = no_certificates lines
+
+all_of_bundle : (lines : List Line) → bundle_in Bundle lines ≡ lines
+all_of_bundle [] = refl
+all_of_bundle (line ∷ lines) = ap (λ ls. line ∷ ls) (all_of_bundle lines)
+
+-- so the next ones wait as they are
+pub more_wait : (old new : PartsSoFar) (lines more : List Line) → old.layout ≡ Bundle → new ≡ record old { waiting = old.waiting ++ lines } → parts_to_come new more ≡ parts_to_come old (lines ++ more)
+more_wait old new lines more bundle is =
+    rw (is, bundle, no_certificates more, no_certificates (lines ++ more), all_of_bundle more, all_of_bundle (lines ++ more), append_assoc old.waiting lines more) refl
 
 -- the last lines are what is still to come
 last-lines : (s : InputSoFar) (ls : List Line) → s.fault ≡ None → lines_to_come s.cut [] ≡ record { lines = ls; fault = None }

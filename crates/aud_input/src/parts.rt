@@ -26,7 +26,7 @@ pub struct PartsReader {
     layout: Layout,
     taps: BundleReader,
     waiting: Lines,
-    /// How many bytes the lines that wait have.
+    /// With how many bytes of the input the lines that wait came.
     bytes: usize,
     certificates: Vec<Line>,
 }
@@ -111,13 +111,12 @@ impl PartsReader {
             self.certificates.push(line.copied(self.alloc)?)?;
         } else {
             self.waiting.push(line)?;
-            self.bytes = self.bytes.saturating_add(line.bytes.len());
         }
         Ok(())
     }
 
-    /// Keeps the next lines.
-    fn keep_lines(&mut self, lines: &[LentLine<'_>]) -> Result<(), AllocError>
+    /// Keeps the next lines, each by itself.
+    fn keep_each(&mut self, lines: &[LentLine<'_>]) -> Result<(), AllocError>
         ensures going { self.new.taps ≡ self.old.taps }
         ensures parts { OnOk result ((more : List Line)
             → parts_to_come self.new more ≡ parts_to_come self.old (lines.now ++ more)) }
@@ -129,12 +128,28 @@ impl PartsReader {
         Ok(())
     }
 
-    /// Reads the next lines, up to the first that is refused, or keeps them until there are enough to be read.
+    /// Keeps the next lines, which came with so many bytes of the input: together, where none can be a certificate.
+    fn keep_lines(&mut self, lines: &Lines, size: usize) -> Result<(), AllocError>
+        ensures going { self.new.taps ≡ self.old.taps }
+        ensures parts { OnOk result ((more : List Line)
+            → parts_to_come self.new more ≡ parts_to_come self.old (lines.now ++ more)) }
+        ensures waits { OnOk result (AreAmong self.new.waiting (self.old.waiting ++ lines.now)) }
+    {
+        self.bytes = self.bytes.saturating_add(size);
+        match self.layout {
+            Layout::Bundle => self.waiting.append(lines),
+            Layout::BundleAndCertificates => self.keep_each(&lines.lent()?),
+        }
+    }
+
+    /// Reads the next lines, up to the first that is refused, or keeps them until there are enough to be read. They
+    /// came with so many bytes of the input.
     pub fn read_lines<H: Threads + Sync>(
         &mut self,
         rt: &H,
         threads: usize,
-        lines: &[LentLine<'_>],
+        lines: &Lines,
+        size: usize,
     ) -> Result<(), ReadFault>
         requires going { self.old.taps.fault ≡ None }
         ensures going { OnOk result (self.new.taps.fault ≡ None) }
@@ -146,7 +161,7 @@ impl PartsReader {
             → AreAmong self.new.waiting (self.old.waiting ++ lines.now) }
         ensures held { IfErr result (λ e. e ≢ ReadFault.Memory → Holds e self.new.waiting) }
     {
-        self.keep_lines(lines)?;
+        self.keep_lines(lines, size)?;
         if threads < 2 || MAX_LINES <= self.waiting.len() || MAX_BYTES <= self.bytes {
             return self.read_waiting(rt, threads);
         }

@@ -14,7 +14,7 @@ use crate::input::{Input, Layout};
 use crate::parts::PartsReader;
 use crate::refusal::header_of;
 use crate::tap_lines::RecordLines;
-use aud_reader::{InputCode, LentLine, Line, Lines, ReadFault, Splitter};
+use aud_reader::{InputCode, Line, Lines, ReadFault, Splitter};
 use aud_tap::Bytes;
 use std::alloc::{AllocError, Global};
 use std::hash::RandomState;
@@ -48,25 +48,26 @@ impl Model for InputReader {
 }
 
 /// Notes the next lines, where an index is kept.
-fn note_lines(index: &mut Option<LineIndex>, lines: &[LentLine<'_>]) -> Result<(), AllocError>
+fn note_lines(index: &mut Option<LineIndex>, lines: &Lines) -> Result<(), AllocError>
     requires { IfSome index.old KeepsPlaces }
     ensures noted { OnOk result (option_map so_far index.new
         ≡ option_map (λ s. noted s lines.now) (option_map so_far index.old)) }
     ensures keeps { OnOk result (IfSome index.new KeepsPlaces) }
 {
     match index {
-        Some(index) => index.note_lines(lines),
+        Some(index) => index.note_lines(&lines.lent()?),
         None => Ok(()),
     }
 }
 
-/// Notes the next lines, and reads them, now or later.
+/// Notes the next lines, which came with so many bytes of the input, and reads them, now or later.
 fn read_cut<H: Threads + Sync>(
     rt: &H,
     threads: usize,
     parts: &mut PartsReader,
     index: &mut Option<LineIndex>,
     lines: &Lines,
+    size: usize,
 ) -> Result<(), ReadFault>
     requires going { parts.old.taps.fault ≡ None }
     requires keeps { IfSome index.old KeepsPlaces }
@@ -82,9 +83,8 @@ fn read_cut<H: Threads + Sync>(
         → AreAmong parts.new.waiting (parts.old.waiting ++ lines.now) }
     ensures held { IfErr result (λ e. e ≢ ReadFault.Memory → Holds e parts.new.waiting) }
 {
-    let lines = lines.lent()?;
-    note_lines(index, &lines)?;
-    parts.read_lines(rt, threads, &lines)
+    note_lines(index, lines)?;
+    parts.read_lines(rt, threads, lines, size)
 }
 
 /// Cuts the next piece into lines, notes those that are whole, and reads them, now or later.
@@ -113,7 +113,7 @@ fn read_piece<H: Threads + Sync>(
     ensures number { splitter.new.number ≤ splitter.old.number + length piece.now }
 {
     let cut = splitter.feed(piece);
-    match read_cut(rt, threads, parts, index, splitter.waiting()) {
+    match read_cut(rt, threads, parts, index, splitter.waiting(), piece.len()) {
         Ok(()) => splitter.clear(),
         Err(fault) => return Err(fault),
     }
@@ -231,7 +231,7 @@ impl InputReader {
             return Err(fault);
         }
         let lines = this.splitter.finish()?;
-        read_cut(rt, threads, &mut this.parts, &mut this.index, &lines)?;
+        read_cut(rt, threads, &mut this.parts, &mut this.index, &lines, 0)?;
         this.parts.finish(rt, threads)
     }
 

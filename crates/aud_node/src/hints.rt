@@ -1,6 +1,5 @@
 //! Guesses which entry a text is of.
-ghost use Rattle.std.specs.Prelude.{◌+◌, ◌≤◌, length};
-
+use aud_base::mixed_ending;
 use aud_tap::StreamRec;
 use std::alloc::{AllocError, Global};
 
@@ -68,16 +67,9 @@ impl Hints {
     }
 }
 
-/// The 16 bytes before a text's closing quote and bracket, mixed; 0 of a text that has fewer.
+/// The 16 bytes before a text's closing quote and bracket, mixed.
 fn mixed(text: &str) -> u64 {
-    let bytes = text.as_bytes();
-    if bytes.len() < 18 {
-        return 0;
-    }
-    let end = bytes.len() - 18;
-    let (high, low) = (word_at(bytes, end), word_at(bytes, end + 8));
-    let word = high.rotate_left(23).wrapping_add(low);
-    (word ^ (word >> 32)).wrapping_mul(0x9e37_79b9_7f4a_7c15)
+    mixed_ending(text, 2, 0)
 }
 
 /// What tells a text from others whose slots are near its own.
@@ -88,20 +80,4 @@ fn tag_of(mixed: u64) -> u64 {
 /// The slot in which a text is looked for at this try. Each byte of the 16 counts.
 fn slot_of(mixed: u64, probe: usize, slots: usize) -> usize {
     ((mixed >> 32) as usize).wrapping_add(probe) & slots.wrapping_sub(1)
-}
-
-/// The eight bytes from this place on, as a number.
-fn word_at(bytes: &[u8], at: usize) -> u64
-    requires { at + 8 ≤ length bytes.now }
-{
-    u64::from_le_bytes([
-        bytes[at],
-        bytes[at + 1],
-        bytes[at + 2],
-        bytes[at + 3],
-        bytes[at + 4],
-        bytes[at + 5],
-        bytes[at + 6],
-        bytes[at + 7],
-    ])
 }

@@ -13,7 +13,7 @@ use crate::node_log::NodeLog;
 use crate::recoverable::{recoverable_in_threads, recoverable_of};
 use crate::rest::Rest;
 use crate::stream::Stream;
-use aud_base::{Places, try_map};
+use aud_base::{Places, make_room, try_map};
 use aud_tap::{ClientRec, Records, StreamRec, Tap, Taps};
 use std::alloc::{AllocError, Global};
 use std::hash::RandomState;
@@ -313,6 +313,7 @@ fn node_in<'a>(
 ) -> Result<Option<NodeLog<'a>>, AllocError>
     ensures { IfOk result (λ node. node ≡ node_in all.now.stream all.now.taps.now place) }
 {
+    make_room(alloc);
     match all.taps.get(place) {
         Some(tap) => node_of(alloc, keys, &all.stream, tap),
         None => Ok(None),

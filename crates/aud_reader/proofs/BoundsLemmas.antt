@@ -1,8 +1,9 @@
 -- Lines that stand in one block of memory, which grows.
-use Rattle.std.proofs.Common.{◌≡◌, ℕ, zero, suc, ◌+◌, ◌≤◌, List, [], ◌∷◌, ◌++◌, length, take, drop, refl, ap, ◌∙◌, arith}
+use Rattle.std.proofs.Common.{◌≡◌, ℕ, zero, suc, ◌+◌, ◌≤◌, List, [], ◌∷◌, ◌++◌, length, length-append, map, take, drop, refl, ap, ◌∙◌, arith}
 use Rattle.std.specs.List.{All}
 use Rattle.std.proofs.Math.Seq.{take-length}
 use Rattle.std.proofs.lemmas.List.{map-append}
+use Rattle.std.proofs.lemmas.List.Elements.{All-append, All-map, All-take}
 use Rattle.aud_reader.specs.declared.line.Line.{Line}
 use Rattle.aud_reader.specs.declared.lines.Bounds.{Bounds}
 use Rattle.aud_reader.specs.Private.Bounds.{AreWithin, line_within, lines_at}
@@ -51,3 +52,43 @@ lines_at-push bytes line bounds at within number start size =
   where
     one : line_within (bytes ++ line.bytes) at ≡ line
     one = rw (number, start, size, slice-last bytes line.bytes) refl
+
+-- ---- the lines of another block, put after these
+
+-- where a line stands, by what its block now begins at
+abbrev pub shifted : ℕ → Bounds → Bounds
+shifted front at = record { number = at.number; start = front + at.start; length = at.length }
+
+-- what follows the front, from a place on
+drop-front : (bytes more : List ℕ) (start : ℕ) → drop (length bytes + start) (bytes ++ more) ≡ drop start more
+drop-front [] more start = ap (λ n. drop n more) (omega arith)
+drop-front (b ∷ bytes) more start =
+    let next : suc (length bytes) + start ≡ suc (length bytes + start) = omega arith in
+    ap (λ n. drop n (b ∷ (bytes ++ more))) next ∙ drop-front bytes more start
+
+-- a line is the same where its block now stands
+line-shifted : (bytes more : List ℕ) (at : Bounds) → line_within (bytes ++ more) (shifted (length bytes) at) ≡ line_within more at
+line-shifted bytes more at = ap (λ (slice : List ℕ). record { number = at.number; bytes = take at.length slice }) (drop-front bytes more at.start)
+
+lines-shifted : (bytes more : List ℕ) (others : List Bounds) → lines_at (bytes ++ more) (map (shifted (length bytes)) others) ≡ lines_at more others
+lines-shifted bytes more [] = refl
+lines-shifted bytes more (at ∷ others) =
+    ap (λ (l : Line). l ∷ lines_at (bytes ++ more) (map (shifted (length bytes)) others)) (line-shifted bytes more at)
+    ∙ ap (λ ls. line_within more at ∷ ls) (lines-shifted bytes more others)
+
+-- the lines of both
+pub lines_at-both : (bytes more : List ℕ) (bounds others : List Bounds) → AreWithin bytes bounds
+    → lines_at (bytes ++ more) (bounds ++ map (shifted (length bytes)) others) ≡ lines_at bytes bounds ++ lines_at more others
+lines_at-both bytes more bounds others within =
+    map-append (line_within (bytes ++ more)) bounds (map (shifted (length bytes)) others)
+    ∙ ap (λ ls. ls ++ lines_at (bytes ++ more) (map (shifted (length bytes)) others)) (lines_at-append bytes more bounds within)
+    ∙ ap (λ ls. lines_at bytes bounds ++ ls) (lines-shifted bytes more others)
+
+-- and all of them stand within the bytes of both, a front of the other's too
+pub within-both : (bytes more : List ℕ) (bounds others : List Bounds) (n : ℕ) → AreWithin bytes bounds → AreWithin more others
+    → AreWithin (bytes ++ more) (bounds ++ map (shifted (length bytes)) (take n others))
+within-both bytes more bounds others n within after =
+    let both = length-append bytes more in
+    let front = All-take (IsWithin more) n others after in
+    All-append (IsWithin (bytes ++ more)) bounds (map (shifted (length bytes)) (take n others)) (λ k d h. omega (arith, both, within k d h))
+    (All-map (IsWithin (bytes ++ more)) (shifted (length bytes)) (take n others) (λ k d h. omega (arith, both, front k d h)))

@@ -6,5 +6,6 @@ pub mod Changes
 pub mod Texts
 pub mod Kept
 pub mod NewRecord
+pub mod Packed
 pub mod OwnRecords
 pub mod Bounds

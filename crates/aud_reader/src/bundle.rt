@@ -5,6 +5,7 @@ mod node_log;
 mod open_tap;
 mod open_taps;
 mod own_records;
+mod packed;
 mod pids;
 mod stream_log;
 
@@ -24,9 +25,10 @@ use crate::line::LentLine;
 use crate::lines::Lines;
 use aud_base::TextPool;
 use aud_json::Scratch;
-use aud_tap::{Rec, Taps};
+use aud_tap::Taps;
 use open_taps::OpenTaps;
 use own_records::{OwnRecord, own_records_of, parts_of};
+use packed::PackedRec;
 use std::alloc::Global;
 use std::hash::RandomState;
 use std::marker::Model;
@@ -223,7 +225,12 @@ impl BundleReader {
     }
 
     /// Adds the record of the next line to the tap at this place, which is the line's.
-    fn add_record(&mut self, line: &LentLine<'_>, place: usize, rec: Rec) -> Result<(), ReadFault>
+    fn add_record(
+        &mut self,
+        line: &LentLine<'_>,
+        place: usize,
+        rec: PackedRec,
+    ) -> Result<(), ReadFault>
         requires open { self.old.fault ≡ None }
         requires own { IsOfLine self.old.taps line.now (Placed place rec) }
         ensures value { result ≡ result_of self.new.fault }

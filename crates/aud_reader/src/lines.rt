@@ -73,6 +73,21 @@ impl Lines {
         Ok(())
     }
 
+    /// Puts these lines after the others. Their bytes are copied together.
+    pub fn append(&mut self, lines: &Lines) -> Result<(), AllocError>
+        ensures { OnOk result (self.new ≡ self.old ++ lines.now) }
+    {
+        let front = self.bytes.len();
+        self.bytes.extend_from_slice(&lines.bytes)?;
+        for at in &lines.bounds {
+            self.bounds.push(Bounds {
+                start: front + at.start,
+                ..*at
+            })?;
+        }
+        Ok(())
+    }
+
     /// How many lines there are.
     pub fn len(&self) -> usize
         ensures { result ≡ length self.now }

@@ -10,6 +10,7 @@ use Rattle.aud_tap.specs.declared.taps.Tap.{Tap}
 use Rattle.aud_base.specs.Steps.{◌>>=◌}
 use Rattle.aud_tap.specs.Names.{place_of}
 use Rattle.aud_reader.specs.Record.{line_record}
+use Rattle.aud_reader.specs.Private.Packed.{rec_of}
 
 -- a record that is read, after the name of its tap
 abbrev pub with_name : List ℕ → Result Rec InputCode → Result (List ℕ × Rec) InputCode
@@ -18,8 +19,8 @@ with_name name reading = reading >>= (λ rec. Ok (name, rec))
 -- what is kept of a line that is read so, beside these taps: its record, with the place of the tap that it names or
 -- with the name; nothing where it is refused
 abbrev pub IsOwnOf : List Tap → Result (List ℕ × Rec) InputCode → OwnRecord → Type 0
-IsOwnOf taps reading (Placed place rec) = (name : List ℕ) × (reading ≡ Ok (name, rec)) × (place_of taps name ≡ Some place)
-IsOwnOf taps reading (Named name rec) = reading ≡ Ok (name, rec)
+IsOwnOf taps reading (Placed place rec) = (name : List ℕ) × (reading ≡ Ok (name, rec_of rec)) × (place_of taps name ≡ Some place)
+IsOwnOf taps reading (Named name rec) = reading ≡ Ok (name, rec_of rec)
 IsOwnOf taps reading NoRecord = IsErr reading
 
 -- what the line says by itself, with the place that its tap has among these

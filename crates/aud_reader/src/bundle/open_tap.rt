@@ -6,15 +6,17 @@ ghost use Rattle.aud_reader.specs.Private.Changes.{Becomes};
 ghost use Rattle.aud_tap.specs.RecordFields.{pid_of};
 ghost use Rattle.aud_reader.specs.Bundle.{no_records, pids_in, with_node_record, with_tap_record};
 ghost use Rattle.aud_reader.specs.Private.NewRecord.{with_new_record};
+ghost use Rattle.aud_reader.specs.Private.Packed.{rec_of};
 ghost use Rattle.aud_reader.specs.Private.Texts.{HasPids};
 
 use super::client_log::ClientLog;
 use super::node_log::{add_node_record, push_node_record};
+use super::packed::PackedRec;
 use super::stream_log::StreamLog;
 use crate::fault::{HEADER_TWICE, LineFault, UNKNOWN_KIND};
 use aud_base::TextPool;
 use aud_json::Fields;
-use aud_tap::{NodeRecs, Rec, Records, Tap, TapKind, Text, Version};
+use aud_tap::{NodeRecs, Records, Tap, TapKind, Text, Version};
 use std::alloc::{AllocError, Global};
 use std::collections::HashSet;
 use std::hash::RandomState;
@@ -72,24 +74,27 @@ impl OpenLog {
         &mut self,
         version: Version,
         pids: &mut HashSet<Text, RandomState>,
-        rec: Rec,
+        rec: PackedRec,
     ) -> Result<(), LineFault>
         ensures records { (before after : List (List ℕ))
             → HasPids pids.old (before ++ pids_in (records_so_far self.old) ++ after)
             → Becomes result (records_so_far self.new) (with_new_record version
-            (before ++ pids_in (records_so_far self.old) ++ after) (records_so_far self.old) rec) }
+            (before ++ pids_in (records_so_far self.old) ++ after) (records_so_far self.old)
+            (rec_of rec)) }
         ensures pids { (before after : List (List ℕ))
             → HasPids pids.old (before ++ pids_in (records_so_far self.old) ++ after)
             → OnOk result (HasPids pids.new (before ++ pids_in (records_so_far self.new)
             ++ after)) }
     {
         match (self, rec) {
-            (OpenLog::Stream(entries), Rec::Stream(entry)) => entries.push(entry),
-            (OpenLog::Node(records), Rec::Node(rec)) => {
+            (OpenLog::Stream(entries), PackedRec::Stream(entry)) => {
+                entries.push(Box::into_inner(entry))
+            }
+            (OpenLog::Node(records), PackedRec::Node(rec)) => {
                 push_node_record(version, records, pids, rec)
             }
-            (OpenLog::Client(records), Rec::Client(rec)) => records.push(rec),
-            (_, Rec::Header { .. }) => Err(HEADER_TWICE),
+            (OpenLog::Client(records), PackedRec::Client(rec)) => records.push(rec),
+            (_, PackedRec::Header { .. }) => Err(HEADER_TWICE),
             _ => Err(UNKNOWN_KIND),
         }
     }
@@ -158,14 +163,18 @@ impl OpenTap {
     }
 
     /// Adds a record. The pids are those of all node records.
-    pub fn push(&mut self, pids: &mut HashSet<Text, RandomState>, rec: Rec) -> Result<(), LineFault>
+    pub fn push(
+        &mut self,
+        pids: &mut HashSet<Text, RandomState>,
+        rec: PackedRec,
+    ) -> Result<(), LineFault>
         ensures name { self.new.name ≡ self.old.name }
         ensures version { self.new.version ≡ self.old.version }
         ensures records { (before after : List (List ℕ))
             → HasPids pids.old (before ++ pids_in (records_so_far self.old.log) ++ after)
             → Becomes result (records_so_far self.new.log) (with_new_record self.old.version
             (before ++ pids_in (records_so_far self.old.log) ++ after)
-            (records_so_far self.old.log) rec) }
+            (records_so_far self.old.log) (rec_of rec)) }
         ensures pids { (before after : List (List ℕ))
             → HasPids pids.old (before ++ pids_in (records_so_far self.old.log) ++ after)
             → OnOk result (HasPids pids.new (before ++ pids_in (records_so_far self.new.log)

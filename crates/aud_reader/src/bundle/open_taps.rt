@@ -3,18 +3,20 @@ ghost use Rattle.std.specs.Prelude.{◌≡◌, ◌<◌, ◌∷◌, ◌++◌, [],
 ghost use Rattle.std.specs.HashMap.{get_by_text};
 ghost use Rattle.aud_json.specs.View.{view};
 ghost use Rattle.aud_reader.specs.Private.Changes.{Becomes};
+ghost use Rattle.aud_reader.specs.Private.Packed.{rec_of};
 ghost use Rattle.aud_reader.specs.Record.{line_record};
 ghost use Rattle.aud_reader.specs.Bundle.{no_records, with_header, with_line, with_named, with_value};
 
 use super::counts::Counts;
 use super::open_tap::OpenTap;
+use super::packed::PackedRec;
 use crate::fault::{HEADER_TWICE, InputCode, LineFault};
 use crate::read::header::tap_header;
 use crate::read::line::opened_line;
 use crate::read::record::kind_of;
 use aud_base::TextPool;
 use aud_json::{Fields, Scratch};
-use aud_tap::{Rec, TapKind, Taps, Text, Version};
+use aud_tap::{TapKind, Taps, Text, Version};
 use std::alloc::{AllocError, Global};
 use std::collections::{HashMap, HashSet};
 use std::hash::RandomState;
@@ -161,11 +163,11 @@ impl OpenTaps {
     }
 
     /// Adds the record that a line tells of the tap at a place: the tap that the line names.
-    pub fn push_record(&mut self, place: usize, rec: Rec) -> Result<(), LineFault>
+    pub fn push_record(&mut self, place: usize, rec: PackedRec) -> Result<(), LineFault>
         requires keeps { KeepsTaps self.old }
         requires place { place < length (taps_so_far self.old) }
         ensures taps { (line name : List ℕ) → place_of (taps_so_far self.old) name ≡ Some place
-            → line_record line ≡ Ok (name, rec)
+            → line_record line ≡ Ok (name, rec_of rec)
             → Becomes result (taps_so_far self.new) (with_line (taps_so_far self.old) line) }
         ensures keeps { OnOk result (KeepsTaps self.new) }
     {

@@ -9,13 +9,14 @@ ghost use Rattle.aud_reader.specs.Private.OwnRecords.{AreOfLines, IsOfLine, IsOw
 ghost use Rattle.aud_reader.specs.SoFar.{taps_so_far};
 
 use super::open_taps::OpenTaps;
+use super::packed::PackedRec;
 use crate::fault::LineFault;
 use crate::line::LentLine;
 use crate::read::line::opened_line;
 use crate::read::record::value_record;
-use aud_base::{TextPool, try_map};
+use aud_base::{TextPool, make_room, try_map};
 use aud_json::{Fields, Scratch};
-use aud_tap::{Rec, Text};
+use aud_tap::Text;
 use std::alloc::{AllocError, Global};
 use std::hash::RandomState;
 use std::thread::Threads;
@@ -27,9 +28,9 @@ const PART: usize = 1_024;
 #[derive(Drop)]
 pub enum OwnRecord {
     /// The record of a line whose tap stands at this place.
-    Placed { place: usize, rec: Rec },
+    Placed { place: usize, rec: PackedRec },
     /// The name and the record of a line whose tap was not there when the lines were parsed.
-    Named { name: Text, rec: Rec },
+    Named { name: Text, rec: PackedRec },
     /// The line has no bytes, or is refused for what it says by itself.
     NoRecord,
 }
@@ -48,7 +49,7 @@ fn placed_record(
         (IsOwnOf (taps_so_far taps.now) (with_name name.now (value_record (view d.now))))
         (λ e. Fails e (value_record (view d.now))) }
 {
-    let rec = value_record(alloc, pool, d)?;
+    let rec = PackedRec::new(alloc, value_record(alloc, pool, d)?)?;
     match taps.place(name) {
         Some(place) => Ok(OwnRecord::Placed { place, rec }),
         None => {
@@ -91,19 +92,6 @@ fn own_record(
         Ok(own) => Ok(own),
         Err(LineFault::Code(_)) => Ok(OwnRecord::NoRecord),
         Err(LineFault::Memory) => Err(AllocError),
-    }
-}
-
-/// How much a thread's heap is to grow at once.
-const ROOM: usize = 8_388_608;
-
-/// Asks for a large block and gives it back, so that this thread's heap has room for the records of a part, where there
-/// is memory for it. A heap of glibc's that many small blocks are asked of grows by one page a time, and each time all
-/// threads are interrupted; and what they give back goes to the system in small steps, unless a block of this size was
-/// given back.
-fn make_room(alloc: Global) {
-    if let Ok(block) = Vec::<u8>::with_capacity(alloc, ROOM) {
-        drop(block);
     }
 }
 

@@ -1,23 +1,18 @@
-use Rattle.std.proofs.Common.{◌≡◌, ◌∙◌, ◌+◌, ◌∷◌, ◌++◌, List, drop, sym, ap, subst}
-use Rattle.std.proofs.lemmas.List.{at_drop_more}
+use Rattle.std.proofs.Common.{◌∙◌, List, ◌++◌, OnOk, sym, ap, subst}
+use Rattle.std.proofs.lemmas.Result.{on_ok_weaker}
 use Rattle.aud_reader.specs.declared.line.Line.{Line}
-use Rattle.aud_input.specs.Reader.{AreAmong, parts_to_come}
-use Rattle.aud_input.proofs.GivenLemmas.{among-end, among-next}
+use Rattle.aud_input.specs.Reader.{AreAmong, PartsSoFar}
+use Rattle.aud_input.proofs.InputLemmas.{more_wait}
 use Rattle.aud_input.proofs.parts.PartsReader.keep_lines.Goals as goal
 
-pub loop-line-preserved : goal.loop-line-preserved
-loop-line-preserved c =
-    let l = c.loop-line in
-    let lines : List Line = c.args.lines.now in
-    let line : Line = c.line-item.result in
-    let rest : List Line = drop (l.line-index + 1) lines in
-    let all : List Line = c.args.self.now.waiting ++ lines in
-    let steps : drop l.line-index lines ≡ line ∷ rest = at_drop_more (λ ls. ls) lines l.line-index line c.loop-line-test.true ∙ ap (λ x. x ∷ rest) (sym c.line-item.is) in
-    record {
-      going = c.in_ok-keep_line.ensures.going ∙ l.invariant.going;
-      waits = among-next c.keep_line.new.self.waiting l.self.waiting rest all line c.in_ok-keep_line.ensures.waits (subst (λ ls. AreAmong (l.self.waiting ++ ls) all) steps l.invariant.waits);
-      parts = λ more. c.in_ok-keep_line.ensures.parts (rest ++ more) ∙ ap (λ ls. parts_to_come l.self (ls ++ more)) (sym steps) ∙ l.invariant.parts more;
-    }
+pub returns-in-Bundle-clause-parts : goal.returns-in-Bundle-clause-parts
+returns-in-Bundle-clause-parts c =
+    let old = c.self.inside in
+    let waits = λ (waiting : List Line). let s : PartsSoFar = record { layout = old.layout; taps = old.taps; waiting = waiting; certificates = old.certificates.items } in s in
+    let bundle = sym (ap (λ (s : PartsSoFar). s.layout) c.self.view_is) ∙ c.in-Bundle.is in
+    on_ok_weaker c.append.result (λ put more. more_wait c.args.self.now (waits c.append.new.self) c.args.lines.now more bundle (rw (← c.self.view_is) (ap waits put))) c.append.ensures
 
-pub returns-clause-waits : goal.returns-clause-waits
-returns-clause-waits c = among-end c.loop-line.self.waiting (drop c.loop-line.line-index c.args.lines.now) (c.args.self.now.waiting ++ c.args.lines.now) c.loop-line.invariant.waits
+pub returns-in_ok-lent-in-BundleAndCertificates-clause-waits : goal.returns-in_ok-lent-in-BundleAndCertificates-clause-waits
+returns-in_ok-lent-in-BundleAndCertificates-clause-waits c =
+    let all = c.deref.ensures.value ∙ c.in_ok-lent-in-BundleAndCertificates.ensures in
+    subst (λ ls. OnOk c.keep_each.result (AreAmong c.keep_each.new.self.waiting (c.args.self.now.waiting ++ ls))) all (rw (← c.self.view_is) c.keep_each.ensures.waits)

@@ -1,7 +1,7 @@
 use Rattle.std.proofs.Common.{◌≡◌, ◌++◌, List, drop}
 use Rattle.aud_reader.specs.declared.line.Line.{Line}
 use Rattle.aud_input.specs.Reader.{AreAmong, parts_to_come}
-use Rattle.aud_input.proofs.parts.PartsReader.keep_lines.Given as goal
+use Rattle.aud_input.proofs.parts.PartsReader.keep_each.Given as goal
 
 -- the lines to come bring what all lines did
 abbrev pub invariant-loop-line : goal.invariant-loop-line
