@@ -9,6 +9,7 @@ ghost use Rattle.aud_json.specs.View.{field_view, members_view, view};
 
 use crate::fault::FieldsFault;
 use crate::field::{Field, MAX_DEPTH};
+use crate::flat::flat_members;
 use crate::members::all_members;
 use crate::pass::pass_from;
 use json::{Reader, Scratch, Token};
@@ -82,6 +83,9 @@ impl<'a> Fields<'a> {
             × (shown d ≡ view fields)) }
         ensures refused { result ≡ Err FieldsFault.NotJson → read text.now ≡ None }
     {
+        if let Some(members) = flat_members(alloc, text)? {
+            return Ok(Fields { members });
+        }
         let mut reader = Reader::new(text, scratch)?;
         let fields = next_fields(alloc, &mut reader)?;
         if reader.next().is_some() {

@@ -23,6 +23,7 @@
 mod fault;
 mod field;
 mod fields;
+mod flat;
 mod members;
 mod number;
 mod pass;
