@@ -1,11 +1,69 @@
 -- A string, byte by byte, as the lexer passes over it and as its content is read.
-use Rattle.std.proofs.Common.{◌≡◌, ℕ, ◌+◌, ◌<◌, ◌≤◌, Bool, true, false, cond, List, [], ◌∷◌, ◌++◌, length, take, drop, get_or, Option, Some, None, refl, sym, ap, ◌∙◌, subst, append_assoc}
-use Rattle.std.proofs.lemmas.Bool.{ne_eqb, le-ltb}
+use Rattle.std.proofs.Common.{◌≡◌, ℕ, ◌+◌, ◌<◌, ◌≤◌, Bool, true, false, cond, List, [], ◌∷◌, ◌++◌, ◌⊎◌, inl, inr, length, take, drop, get_or, Option, Some, None, refl, sym, ap, ◌∙◌, subst, arith, append_assoc}
+use Rattle.std.proofs.lemmas.Bool.{cases_eq, ne_eqb, le-ltb}
 use Rattle.std.proofs.lemmas.List.{append-nil, drop_more, take_more}
-use Rattle.json.specs.Text.{content, plain, prepend}
-use Rattle.json.specs.Word.{is_operator, is_space}
 use Rattle.json.specs.Token.{string, end_object}
+use Rattle.json.specs.Text.{content, plain, prepend, short_escape}
+use Rattle.json.specs.Word.{is_operator, is_space}
 use Rattle.json.specs.Lex.{Lexeme, token, comma, colon, string_token, Mode, lex, lex_byte, between, in_string, operator, space, other}
+
+-- ---- a byte of the content
+
+stays_inside : (o s : Bool) (x : ℕ) (r : List ℕ) (k : Mode → List Lexeme) → lex_byte in_string (cond o operator (cond s space other)) x r k ≡ k in_string
+stays_inside true s x r k = refl
+stays_inside false true x r k = refl
+stays_inside false false x r k = refl
+
+-- a plain byte stands for itself
+content_plain : (x : ℕ) (rest : List ℕ) → (x ≡ 34 → ⊥) → (x ≡ 92 → ⊥) → 32 ≤ x → content plain (x ∷ rest) ≡ prepend (x ∷ []) (content plain rest)
+unfolding content
+content_plain x rest q b l = rw (ne_eqb x 34 q, ne_eqb x 92 b, le-ltb x 32 l)
+
+-- the lexer passes over it
+lex_plain : (x : ℕ) (rest : List ℕ) → (x ≡ 34 → ⊥) → (x ≡ 92 → ⊥) → lex in_string (x ∷ rest) ≡ lex in_string rest
+unfolding lex
+lex_plain x rest q b = rw (ne_eqb x 34 q, ne_eqb x 92 b) (stays_inside (is_operator x) (is_space x) x rest (λ m. lex m rest))
+
+none_some : (c : ℕ) → None ≡ Some c → ⊥
+none_some c e = absurd (cc)
+
+-- a short escape stands for its byte
+content_escape : (x c : ℕ) (rest : List ℕ) → short_escape x ≡ Some c → content plain (92 ∷ x ∷ rest) ≡ prepend (c ∷ []) (content plain rest)
+unfolding content short_escape
+content_escape x c rest e = go (cases_eq x 117)
+  where
+    go : (x ≡ 117) ⊎ (x ≡ 117 → ⊥) → content plain (92 ∷ x ∷ rest) ≡ prepend (c ∷ []) (content plain rest)
+    go (inl same) = absurd (none_some c (sym (ap short_escape same) ∙ e))
+    go (inr differs) = rw (ne_eqb x 117 differs, e)
+
+-- the lexer passes over it
+lex_escape : (x : ℕ) (rest : List ℕ) → lex in_string (92 ∷ x ∷ rest) ≡ lex in_string rest
+unfolding lex
+lex_escape x rest = refl
+
+-- ---- the same at a place of a text
+
+-- the byte c of the content is read, from one place up to another
+abbrev pub Steps : List ℕ → ℕ → ℕ → ℕ → Type 0
+Steps d at c next = (content plain (drop at d) ≡ prepend (c ∷ []) (content plain (drop next d))) × (lex in_string (drop at d) ≡ lex in_string (drop next d))
+
+-- a plain byte
+pub step_plain : (d : List ℕ) (at : ℕ) → at < length d → (get_or d at 0 ≡ 34 → ⊥) → (get_or d at 0 ≡ 92 → ⊥) → 32 ≤ get_or d at 0 → Steps d at (get_or d at 0) (at + 1)
+step_plain d at within q b l =
+    let x = get_or d at 0 in
+    let here = drop_more d at 0 within in
+    (ap (content plain) here ∙ content_plain x (drop (at + 1) d) q b l, ap (lex in_string) here ∙ lex_plain x (drop (at + 1) d) q b)
+
+-- a short escape
+pub step_escape : (d : List ℕ) (at c : ℕ) → at + 1 < length d → get_or d at 0 ≡ 92 → short_escape (get_or d (at + 1) 0) ≡ Some c → Steps d at c (at + 2)
+step_escape d at c within backslash e =
+    let x = get_or d (at + 1) 0 in
+    let two : at + 1 + 1 ≡ at + 2 = omega arith in
+    let after : drop (at + 1) d ≡ x ∷ drop (at + 2) d = drop_more d (at + 1) 0 within ∙ ap (λ k. x ∷ drop k d) two in
+    let here : drop at d ≡ 92 ∷ x ∷ drop (at + 2) d = drop_more d at 0 (omega arith) ∙ ap (λ y. y ∷ drop (at + 1) d) backslash ∙ ap (λ l. 92 ∷ l) after in
+    (ap (content plain) here ∙ content_escape x c (drop (at + 2) d) e, ap (lex in_string) here ∙ lex_escape x (drop (at + 2) d))
+
+-- ---- what was read so far
 
 -- of a string, what was read so far and what is left
 pub record Passed (text found rest : List ℕ) : Type 0 where
@@ -24,40 +82,23 @@ prepend-prepend a b (Some s) = ap Some (sym (append_assoc a b s))
 pub passed_none : (text : List ℕ) → Passed text [] text
 passed_none text = record { read = prepend-nil _; lexed = refl }
 
-stays_inside : (o s : Bool) (x : ℕ) (r : List ℕ) (k : Mode → List Lexeme) → lex_byte in_string (cond o operator (cond s space other)) x r k ≡ k in_string
-stays_inside true s x r k = refl
-stays_inside false true x r k = refl
-stays_inside false false x r k = refl
+-- a byte was read after the others
+pub passed_step : (text found : List ℕ) (at c next : ℕ) → Passed text found (drop at text) → Steps text at c next → Passed text (found ++ c ∷ []) (drop next text)
+passed_step text found at c next p s = record { read = p.read ∙ ap (prepend found) s.0 ∙ prepend-prepend found (c ∷ []) (content plain (drop next text)); lexed = p.lexed ∙ s.1 }
 
-content_byte : (x : ℕ) (rest : List ℕ) → (x ≡ 34 → ⊥) → (x ≡ 92 → ⊥) → 32 ≤ x → content plain (x ∷ rest) ≡ prepend (x ∷ []) (content plain rest)
-unfolding content
-content_byte x rest q b l = rw (ne_eqb x 34 q, ne_eqb x 92 b, le-ltb x 32 l)
-
-lex_plain : (x : ℕ) (rest : List ℕ) → (x ≡ 34 → ⊥) → (x ≡ 92 → ⊥) → lex in_string (x ∷ rest) ≡ lex in_string rest
-unfolding lex
-lex_plain x rest q b = rw (ne_eqb x 34 q, ne_eqb x 92 b) (stays_inside (is_operator x) (is_space x) x rest (λ m. lex m rest))
-
--- a plain byte was read
-pub passed_byte : (text found rest : List ℕ) (x : ℕ) → Passed text found (x ∷ rest) → (x ≡ 34 → ⊥) → (x ≡ 92 → ⊥) → 32 ≤ x → Passed text (found ++ x ∷ []) rest
-passed_byte text found rest x p q b l = record {
-  read = p.read ∙ ap (prepend found) (content_byte x rest q b l) ∙ prepend-prepend found (x ∷ []) (content plain rest);
-  lexed = p.lexed ∙ lex_plain x rest q b;
-}
-
--- the quote was read
-pub passed_quote : (text found rest : List ℕ) → Passed text found (34 ∷ rest) → (content plain text ≡ Some found) × (lex in_string text ≡ lex between rest)
-unfolding content lex
-passed_quote text found rest p = (p.read ∙ ap Some (append-nil found), p.lexed)
-
--- ---- the same by places
-
--- one more plain byte of the text itself
+-- a plain byte was read after the text's own
 pub passed_more : (text : List ℕ) (i : ℕ) → Passed text (take i text) (drop i text) → i < length text → (get_or text i 0 ≡ 34 → ⊥) → (get_or text i 0 ≡ 92 → ⊥) → 32 ≤ get_or text i 0
     → Passed text (take (i + 1) text) (drop (i + 1) text)
 passed_more text i p within q b l =
-    let x = get_or text i 0 in
-    subst (λ f. Passed text f (drop (i + 1) text)) (sym (take_more text i 0 within))
-    (passed_byte text (take i text) (drop (i + 1) text) x (subst (λ r. Passed text (take i text) r) (drop_more text i 0 within) p) q b l)
+    subst (λ f. Passed text f (drop (i + 1) text)) (sym (take_more text i 0 within)) (passed_step text (take i text) i (get_or text i 0) (i + 1) p (step_plain text i within q b l))
+
+closed : (text found rest : List ℕ) → Passed text found (34 ∷ rest) → (content plain text ≡ Some found) × (lex in_string text ≡ lex between rest)
+unfolding content lex
+closed text found rest p = (p.read ∙ ap Some (append-nil found), p.lexed)
+
+-- the quote comes
+pub passed_end : (text found : List ℕ) (at : ℕ) → Passed text found (drop at text) → at < length text → get_or text at 0 ≡ 34 → (content plain text ≡ Some found) × (lex in_string text ≡ lex between (drop (at + 1) text))
+passed_end text found at p within quote = closed text found (drop (at + 1) text) (subst (Passed text found) (drop_more text at 0 within ∙ ap (λ x. x ∷ drop (at + 1) text) quote) p)
 
 -- ---- lexemes
 

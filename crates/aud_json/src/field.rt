@@ -8,7 +8,8 @@ ghost use Rattle.aud_json.specs.View.{field_view, list_view};
 
 use crate::fault::FieldsFault;
 use crate::members::next_field;
-use json::{Reader, Scratch};
+use crate::scratch::Scratch;
+use json::Reader;
 use serde_json::Number;
 use std::alloc::Global;
 
@@ -46,7 +47,7 @@ impl<'a> Field<'a> {
             × (shown_field d ≡ field_view field)) }
         ensures refused { result ≡ Err FieldsFault.NotJson → read text.now ≡ None }
     {
-        let mut reader = Reader::new(text, scratch)?;
+        let mut reader = Reader::new(text, scratch.general())?;
         let field = next_field(alloc, &mut reader, MAX_DEPTH)?;
         if reader.next().is_some() {
             return Err(FieldsFault::NotJson);

@@ -12,7 +12,8 @@ use crate::field::{Field, MAX_DEPTH};
 use crate::flat::flat_members;
 use crate::members::all_members;
 use crate::pass::pass_from;
-use json::{Reader, Scratch, Token};
+use crate::scratch::Scratch;
+use json::{Reader, Token};
 use std::alloc::Global;
 
 /// The fields of the next value.
@@ -83,10 +84,11 @@ impl<'a> Fields<'a> {
             × (shown d ≡ view fields)) }
         ensures refused { result ≡ Err FieldsFault.NotJson → read text.now ≡ None }
     {
-        if let Some(members) = flat_members(alloc, text)? {
+        let (room, general) = scratch.lend(text.len())?;
+        if let Some(members) = flat_members(alloc, text, room)? {
             return Ok(Fields { members });
         }
-        let mut reader = Reader::new(text, scratch)?;
+        let mut reader = Reader::new(text, general)?;
         let fields = next_fields(alloc, &mut reader)?;
         if reader.next().is_some() {
             return Err(FieldsFault::NotJson);

@@ -1,8 +1,8 @@
 //! A fast way for ordinary objects, in one pass over their bytes.
 //!
-//! It reads an object with at least one member and no white space, whose keys are plain texts and whose values are
-//! plain texts and short whole numbers. Of any other text it says nothing, and that is then read from its start by
-//! [`json::Reader`].
+//! It reads an object with at least one member and no white space, whose keys have no escapes, and whose values are
+//! texts with no escape but the short ones (`\n`, and not `\u000a`) and whole numbers of at most 15 digits. Of any other
+//! text it says nothing, and that is then read from its start by [`json::Reader`].
 ghost use Rattle.std.specs.Prelude.{◌≡◌, ◌<◌, ◌≤◌, [], ◌∷◌, length, Some, IfOk, IfSome, IsTrue};
 ghost use Rattle.std.specs.List.{prefix_len};
 ghost use Rattle.std.specs.Char.{is_ascii_digit};
@@ -17,6 +17,7 @@ ghost use Rattle.aud_json.specs.Private.Flat.{IsToken};
 
 use crate::field::Field;
 use crate::number::number;
+use crate::unescape::unescaped;
 use std::alloc::{AllocError, Global};
 
 /// What follows this mark, where it comes first.
@@ -85,18 +86,22 @@ fn whole_number<'a>(text: &'a str) -> Option<(Field<'a>, &'a str)>
     Some((Field::Number(number), &text[count..]))
 }
 
-/// A field, and what follows it.
+/// A field, what follows it, and the room that is left.
 #[inline(always)]
-fn field<'a>(text: &'a str) -> Option<(Field<'a>, &'a str)>
+fn field<'a>(text: &'a str, room: &'a mut [u8]) -> Option<(Field<'a>, &'a str, &'a mut [u8])>
     ensures read { IfSome result (λ p. (t : Token)
         × (lex between text.now ≡ token t ∷ lex between p.1.now) × IsToken t p.0) }
     ensures shorter { IfSome result (λ p. length p.1.now < length text.now) }
 {
     let Some(inner) = after(text, b'"') else {
-        return whole_number(text);
+        let (number, rest) = whole_number(text)?;
+        return Some((number, rest, room));
     };
-    let (text, rest) = plain_text(inner)?;
-    Some((Field::Text(text), rest))
+    if let Some((text, rest)) = plain_text(inner) {
+        return Some((Field::Text(text), rest, room));
+    }
+    let (text, rest, left) = unescaped(inner, room)?;
+    Some((Field::Text(text), rest, left))
 }
 
 /// A key, and what follows its colon.
@@ -122,6 +127,7 @@ fn is_end(text: &str) -> bool
 pub fn flat_members<'a>(
     alloc: Global,
     text: &'a str,
+    room: &'a mut [u8],
 ) -> Result<Option<Vec<(&'a str, Field<'a>)>>, AllocError>
     ensures { IfOk result (λ found. IfSome found (λ members. (d : Data)
         × (read text.now ≡ Some d) × (shown d ≡ object (members_view members.items)))) }
@@ -130,11 +136,12 @@ pub fn flat_members<'a>(
         return Ok(None);
     };
     let mut found = Vec::with_capacity(alloc, 8)?;
+    let mut room = room;
     'members: loop {
         let Some((key, colon_passed)) = key(rest) else {
             return Ok(None);
         };
-        let Some((field, left)) = field(colon_passed) else {
+        let Some((field, left, less_room)) = field(colon_passed, room) else {
             return Ok(None);
         };
         found.push((key, field))?;
@@ -145,5 +152,6 @@ pub fn flat_members<'a>(
             return Ok(Some(found));
         };
         rest = more;
+        room = less_room;
     }
 }

@@ -27,8 +27,10 @@ mod flat;
 mod members;
 mod number;
 mod pass;
+mod scratch;
+mod unescape;
 
 pub use fault::FieldsFault;
 pub use field::Field;
 pub use fields::Fields;
-pub use json::Scratch;
+pub use scratch::Scratch;

@@ -1,8 +1,7 @@
-use Rattle.std.proofs.Common.{◌≡◌, ◌+◌, ◌<◌, ◌∷◌, length, take, drop, get_or, Some, sym, ap, ◌∙◌, subst, arith}
+use Rattle.std.proofs.Common.{◌≡◌, ◌+◌, ◌<◌, length, take, drop, get_or, Some, sym, ap, ◌∙◌, subst, arith}
 use Rattle.std.proofs.lemmas.Str.{IsCharBoundary-after_ascii}
-use Rattle.std.proofs.lemmas.List.{drop_more}
 use Rattle.json.specs.Lex.{between, lex}
-use Rattle.aud_json.proofs.Strings.{Passed, passed_more, passed_quote}
+use Rattle.aud_json.proofs.Strings.{Passed, passed_more, passed_end}
 use Rattle.aud_json.proofs.flat.plain_text.Goals as goal
 
 pub bytes-preserved : goal.bytes-preserved
@@ -31,5 +30,5 @@ returns-clause-read c =
     let front : c.range.result.now ≡ take i text = grind arith in
     let rest : c.range_from.result.now ≡ drop (i + 1) text = grind arith in
     let passed : Passed text (take i text) (drop i text) = subst (λ t. Passed t (take i t) (drop i t)) c.as_bytes-bytes.ensures.value c.bytes.invariant.1 in
-    let both = passed_quote text (take i text) (drop (i + 1) text) (subst (Passed text (take i text)) (drop_more text i 0 within ∙ ap (λ x. x ∷ drop (i + 1) text) quote) passed) in
+    let both = passed_end text (take i text) i passed within quote in
     (both.0 ∙ ap Some (sym front), both.1 ∙ ap (lex between) (sym rest))
