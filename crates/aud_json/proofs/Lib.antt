@@ -2,6 +2,8 @@ mod Reading
 mod Passing
 mod Growing
 mod First
+mod Lanes
+mod Runs
 mod Strings
 mod Numbers
 mod Ordinary

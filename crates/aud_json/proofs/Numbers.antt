@@ -1,5 +1,5 @@
 -- A whole number is one lexeme.
-use Rattle.std.proofs.Common.{◌≡◌, ℕ, suc, ◌+◌, ◌<◌, Bool, true, false, cond, List, [], ◌∷◌, length, take, drop, get_or, Some, ◌⊎◌, inl, inr, refl, sym, ap, ◌∙◌, arith}
+use Rattle.std.proofs.Common.{◌≡◌, ℕ, ◌+◌, ◌<◌, true, List, [], ◌∷◌, length, take, drop, get_or, Some, ◌⊎◌, inl, inr, sym, ap, ◌∙◌, arith}
 use Rattle.std.proofs.lemmas.Bool.{ne_eqb, cases_eq, true≢false}
 use Rattle.std.proofs.lemmas.List.{drop_all, drop_more, take-append-drop, length-take-le, get_or-take, get_or_default}
 use Rattle.std.proofs.lemmas.List.Sums.{prefix_len_passes}
@@ -10,16 +10,7 @@ use Rattle.json.specs.Word.{head, ends_word, after_whole, after_number}
 use Rattle.json.specs.Lex.{between, lex, token}
 use Rattle.json.specs.Print.{IsNumber}
 use Rattle.json.proofs.Printed.Numbers.{lex-number}
-
-one_more : (x : ℕ) (xs : List ℕ) (n : ℕ) (b : Bool) → is_ascii_digit x ≡ b → prefix_len is_ascii_digit (take n xs) ≡ n
-    → prefix_len is_ascii_digit (take (cond b (1 + n) 0) (x ∷ xs)) ≡ cond b (1 + n) 0
-one_more x xs n false e ih = refl
-one_more x xs n true e ih = let next : 1 + n ≡ suc n = omega arith in rw next (rw e (ap (λ k. 1 + k) ih ∙ next))
-
--- of the digits at the front each is one
-front_digits : (t : List ℕ) → prefix_len is_ascii_digit (take (prefix_len is_ascii_digit t) t) ≡ prefix_len is_ascii_digit t
-front_digits [] = refl
-front_digits (x ∷ xs) = one_more x xs (prefix_len is_ascii_digit xs) (is_ascii_digit x) refl (front_digits xs)
+use Rattle.aud_json.proofs.Runs.{prefix_len-front}
 
 -- one 0, or digits of which the first is another, are the whole part of a number
 whole_digits : (s : List ℕ) → prefix_len is_ascii_digit s ≡ length s → 0 < length s → (head s ≡ 48 → length s ≡ 1) → after_whole s ≡ Some []
@@ -42,7 +33,7 @@ lex_digits t n is some lone within ends =
     let first : head s ≡ get_or t 0 0 = get_or-take n t 0 32 some ∙ get_or_default t 0 32 0 (omega arith) in
     let digit : is_ascii_digit (get_or t 0 0) ≡ true = prefix_len_passes is_ascii_digit t 0 0 (omega arith) in
     let plus : head s ≡ 45 → ⊥ = λ e. true≢false (sym digit ∙ ap is_ascii_digit (sym first ∙ e)) in
-    let all : prefix_len is_ascii_digit s ≡ length s = ap (λ k. prefix_len is_ascii_digit (take k t)) is ∙ front_digits t ∙ sym is ∙ sym size in
+    let all : prefix_len is_ascii_digit s ≡ length s = ap (λ k. prefix_len is_ascii_digit (take k t)) is ∙ prefix_len-front is_ascii_digit t ∙ sym is ∙ sym size in
     let next : drop n t ≡ get_or t n 0 ∷ drop (n + 1) t = drop_more t n 0 within in
     ap (lex between) (sym (take-append-drop n t)) ∙ lex-number s (drop n t) (digits_number s all plus (omega arith) (λ e. size ∙ lone (sym first ∙ e))) (ap ends_word next ∙ ended ends)
   where

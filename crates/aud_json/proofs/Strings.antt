@@ -1,10 +1,12 @@
 -- A string, byte by byte, as the lexer passes over it and as its content is read.
-use Rattle.std.proofs.Common.{◌≡◌, ℕ, ◌+◌, ◌<◌, ◌≤◌, Bool, true, false, cond, List, [], ◌∷◌, ◌++◌, ◌⊎◌, inl, inr, length, take, drop, get_or, Option, Some, None, refl, sym, ap, ◌∙◌, subst, arith, append_assoc}
-use Rattle.std.proofs.lemmas.Bool.{cases_eq, ne_eqb, le-ltb}
-use Rattle.std.proofs.lemmas.List.{append-nil, drop_more, take_more}
+use Rattle.std.proofs.Common.{◌≡◌, ◌==◌, ◌||◌, zero, suc, ℕ, ◌+◌, ◌<◌, ◌≤◌, Bool, true, false, cond, List, [], ◌∷◌, ◌++◌, ◌⊎◌, inl, inr, length, take, drop, get_or, Option, Some, None, refl, sym, ap, ◌∙◌, subst, arith, append_assoc}
+use Rattle.std.proofs.lemmas.Bool.{cases_eq, ne_eqb, le-ltb, or_parts, not-true, eqb-false, ltb-false}
+use Rattle.std.proofs.lemmas.List.{append-nil, drop_more, drop-drop}
+use Rattle.std.specs.List.{prefix_len}
 use Rattle.json.specs.Token.{string, end_object}
 use Rattle.json.specs.Text.{content, plain, prepend, short_escape}
 use Rattle.json.specs.Word.{is_operator, is_space}
+use Rattle.json.specs.Run.{is_plain}
 use Rattle.json.specs.Lex.{Lexeme, token, comma, colon, string_token, Mode, lex, lex_byte, between, in_string, operator, space, other}
 
 -- ---- a byte of the content
@@ -86,11 +88,37 @@ passed_none text = record { read = prepend-nil _; lexed = refl }
 pub passed_step : (text found : List ℕ) (at c next : ℕ) → Passed text found (drop at text) → Steps text at c next → Passed text (found ++ c ∷ []) (drop next text)
 passed_step text found at c next p s = record { read = p.read ∙ ap (prepend found) s.0 ∙ prepend-prepend found (c ∷ []) (content plain (drop next text)); lexed = p.lexed ∙ s.1 }
 
--- a plain byte was read after the text's own
-pub passed_more : (text : List ℕ) (i : ℕ) → Passed text (take i text) (drop i text) → i < length text → (get_or text i 0 ≡ 34 → ⊥) → (get_or text i 0 ≡ 92 → ⊥) → 32 ≤ get_or text i 0
-    → Passed text (take (i + 1) text) (drop (i + 1) text)
-passed_more text i p within q b l =
-    subst (λ f. Passed text f (drop (i + 1) text)) (sym (take_more text i 0 within)) (passed_step text (take i text) i (get_or text i 0) (i + 1) p (step_plain text i within q b l))
+plain_parts : (x : ℕ) → is_plain x ≡ true → (x ≡ 34 → ⊥) × (x ≡ 92 → ⊥) × (32 ≤ x)
+plain_parts x e =
+    let none = or_parts ((x == 34) || (x == 92)) _ (not-true _ e) in
+    let tests = or_parts (x == 34) _ none.0 in
+    (eqb-false x 34 tests.0, eqb-false x 92 tests.1, ltb-false x 32 none.1)
+
+one_passed : (b : Bool) (x n : ℕ) (xs : List ℕ) → is_plain x ≡ b → suc n ≤ cond b (1 + prefix_len is_plain xs) 0 → (n ≤ prefix_len is_plain xs → Passed xs (take n xs) (drop n xs)) → Passed (x ∷ xs) (x ∷ take n xs) (drop n xs)
+one_passed false x n xs e le ih = absurd (omega arith)
+one_passed true x n xs e le ih =
+    let parts = plain_parts x e in
+    let rest = ih (omega arith) in
+    record {
+      read = content_plain x xs parts.0 parts.1 parts.2 ∙ ap (prepend (x ∷ [])) rest.read ∙ prepend-prepend (x ∷ []) (take n xs) (content plain (drop n xs));
+      lexed = lex_plain x xs parts.0 parts.1 ∙ rest.lexed;
+    }
+
+-- plain bytes were read
+pub passed_plain : (text : List ℕ) (n : ℕ) → n ≤ prefix_len is_plain text → Passed text (take n text) (drop n text)
+passed_plain text zero le = passed_none text
+passed_plain [] (suc n) le = absurd (omega arith)
+passed_plain (x ∷ xs) (suc n) le = one_passed (is_plain x) x n xs refl le (passed_plain xs n)
+
+-- plain bytes were read after the others
+pub passed_run : (text found : List ℕ) (at n : ℕ) → Passed text found (drop at text) → n ≤ prefix_len is_plain (drop at text) → Passed text (found ++ take n (drop at text)) (drop (at + n) text)
+passed_run text found at n p le =
+    let more = passed_plain (drop at text) n le in
+    let left : drop n (drop at text) ≡ drop (at + n) text = drop-drop n at text in
+    subst (Passed text (found ++ take n (drop at text))) left (record {
+      read = p.read ∙ ap (prepend found) more.read ∙ prepend-prepend found (take n (drop at text)) (content plain (drop n (drop at text)));
+      lexed = p.lexed ∙ more.lexed;
+    })
 
 closed : (text found rest : List ℕ) → Passed text found (34 ∷ rest) → (content plain text ≡ Some found) × (lex in_string text ≡ lex between rest)
 unfolding content lex

@@ -17,6 +17,7 @@ ghost use Rattle.aud_json.specs.Private.Flat.{IsToken};
 
 use crate::field::Field;
 use crate::number::number;
+use crate::run::plain_end;
 use crate::unescape::unescaped;
 use std::alloc::{AllocError, Global};
 
@@ -41,14 +42,11 @@ fn plain_text<'a>(text: &'a str) -> Option<(&'a str, &'a str)>
     ensures shorter { IfSome result (λ p. length p.1.now < length text.now) }
 {
     let bytes = text.as_bytes();
-    let mut i = 0;
-    'bytes: while i < bytes.len() && bytes[i] != b'"' && bytes[i] != b'\\' && bytes[i] >= 0x20 {
-        i += 1;
-    }
-    if i == bytes.len() || bytes[i] != b'"' {
+    let end = plain_end(bytes);
+    if end == bytes.len() || bytes[end] != b'"' {
         return None;
     }
-    Some((&text[..i], &text[i + 1..]))
+    Some((&text[..end], &text[end + 1..]))
 }
 
 /// How many digits come first.

@@ -27,6 +27,7 @@ mod flat;
 mod members;
 mod number;
 mod pass;
+mod run;
 mod scratch;
 mod unescape;
 

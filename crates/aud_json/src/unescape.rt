@@ -3,6 +3,8 @@ ghost use Rattle.std.specs.Prelude.{◌≡◌, ◌+◌, ◌<◌, ◌≤◌, ◌�
 ghost use Rattle.json.specs.Text.{content, plain, prepend, short_escape};
 ghost use Rattle.json.specs.Lex.{between, in_string, lex};
 
+use crate::run::copy_plain;
+
 /// What a backslash and this byte stand for, but for `\u`.
 #[tactic(auto, unfolding(json::specs::Text::short_escape))]
 #[inline(always)]
@@ -55,6 +57,12 @@ fn unescape(text: &str, room: &mut [u8]) -> Option<(usize, usize)>
     let mut from = 0;
     let mut to = 0;
     'bytes: while from < bytes.len() {
+        let run = copy_plain(bytes, from, room, to);
+        from += run;
+        to += run;
+        if from == bytes.len() {
+            return None;
+        }
         if bytes[from] == b'"' {
             return Some((to, from));
         }
