@@ -1,20 +1,10 @@
 //! The lines of an input that comes in pieces.
-ghost use Rattle.std.specs.Prelude.{◌≡◌, ◌+◌, ◌≤◌, ◌^◌, ◌<◌, ◌++◌, length, None, IfOk, OnOk};
+ghost use Rattle.std.specs.Prelude.{◌≡◌, ◌≤◌, ◌^◌, length, None, IfOk};
 ghost use Rattle.aud_reader.specs.Lines.{lines_of};
 
 use crate::bundles::input::are;
 use aud_reader::{InputCode, Lines, ReadFault, Splitter, next_line};
 use std::alloc::{AllocError, Global};
-
-/// Puts lines after others.
-fn append(lines: &mut Lines, others: &Lines) -> Result<(), AllocError>
-    ensures { OnOk result (lines.new ≡ lines.old ++ others.now) }
-{
-    for line in &others.lent()? {
-        lines.push(line)?;
-    }
-    Ok(())
-}
 
 /// The lines of an input of which each byte is a piece, where every line is taken at once.
 fn lines_of_bytes(alloc: Global, input: &[u8]) -> Result<Lines, ReadFault>
@@ -25,9 +15,9 @@ fn lines_of_bytes(alloc: Global, input: &[u8]) -> Result<Lines, ReadFault>
     let mut lines = Lines::new(alloc);
     for byte in input {
         splitter.feed(&[*byte])?;
-        append(&mut lines, &splitter.take())?;
+        lines.append(&splitter.take())?;
     }
-    append(&mut lines, &splitter.finish()?)?;
+    lines.append(&splitter.finish()?)?;
     Ok(lines)
 }
 

@@ -142,7 +142,7 @@ fn reads_as(alloc: Global, keys: RandomState, text: &str, wanted: &Part<'_>) -> 
     is_wanted(&read, wanted)
 }
 
-static RECORDS: [(&str, Fields<'static>); 29] = [
+static RECORDS: [(&str, Fields<'static>); 38] = [
     (
         r#"t {"k":"tap","v":1,"of":"stream"}"#,
         ("Header", "stream", "", "", 1),
@@ -223,6 +223,47 @@ static RECORDS: [(&str, Fields<'static>); 29] = [
         ("Poll", "2\u{1e}42[]", "", "", 0),
     ),
     (r#"t {"k":"out","t":"3"}"#, ("TextOut", "3", "", "", 0)),
+    // texts with each short escape (RFC 8259, section 7), far from it and beside another, and with characters of several
+    // bytes
+    (
+        r#"t {"k":"in","t":"4\"\\\/\b\f\n\r\t"}"#,
+        ("TextIn", "4\"\\/\u{8}\u{c}\n\r\t", "", "", 0),
+    ),
+    (
+        r#"t {"k":"in","t":"4sixteen bytes and\nmore before the next\\"}"#,
+        (
+            "TextIn",
+            "4sixteen bytes and\nmore before the next\\",
+            "",
+            "",
+            0,
+        ),
+    ),
+    (
+        "t {\"k\":\"in\",\"t\":\"4\u{e9}t\u{e9}\\n\u{20ac}\u{1f600}\\t\"}",
+        ("TextIn", "4\u{e9}t\u{e9}\n\u{20ac}\u{1f600}\t", "", "", 0),
+    ),
+    // the other form of an escape, also in a key
+    (
+        r#"t {"\u006b":"in","t":"4\u0022\u20ac"}"#,
+        ("TextIn", "4\"\u{20ac}", "", "", 0),
+    ),
+    // white space
+    (
+        "t {\"k\" : \"in\",\t\"t\":\"4\\\"\" }",
+        ("TextIn", "4\"", "", "", 0),
+    ),
+    // numbers of 1, 15 and 16 digits, and one that has a point
+    (r#"t {"k":"conn","c":0}"#, ("Conn", "", "", "", 0)),
+    (
+        r#"t {"k":"conn","c":999999999999999}"#,
+        ("Conn", "", "", "", 999_999_999_999_999),
+    ),
+    (
+        r#"t {"k":"conn","c":1000000000000000}"#,
+        ("Conn", "", "", "", 1_000_000_000_000_000),
+    ),
+    (r#"t {"k":"lost","c":1.5}"#, ("Lost", "", "", "", 0)),
     // unknown keys are passed over
     (
         r#"t {"k":"take","off":"1-0","turn":0}"#,

@@ -42,7 +42,7 @@ fn refusals_have_names(rt: HostRuntime) {
     }
 }
 
-static TEXTS: [(&str, Option<InputCode>); 44] = [
+static TEXTS: [(&str, Option<InputCode>); 53] = [
     ("", Some(NoTapName)),
     (r#"{"k":"lost"}"#, Some(NoTapName)),
     (r#" {"k":"lost"}"#, Some(NoTapName)),
@@ -53,6 +53,15 @@ static TEXTS: [(&str, Option<InputCode>); 44] = [
     ),
     (r#"a {"k":"lost""#, Some(NotJson)),
     (r#"a {"k":"lost"}}"#, Some(NotJson)),
+    (r#"a {"k":"lost",}"#, Some(NotJson)),
+    (r#"a {"k":"lost"x}"#, Some(NotJson)),
+    (r#"a {"k":"in","t":"4"#, Some(NotJson)),
+    (r#"a {"k":"in","t":"4\"#, Some(NotJson)),
+    (r#"a {"k":"in","t":"4\x"}"#, Some(NotJson)),
+    ("a {\"k\":\"in\",\"t\":\"4\u{1f}\"}", Some(NotJson)),
+    ("a {\"k\":\"in\",\"t\":\"4\\n\u{1f}\"}", Some(NotJson)),
+    (r#"a {"k":"conn","c":01}"#, Some(NotJson)),
+    (r#"a {"k":"conn","c":1x}"#, Some(NotJson)),
     (r#"a ["k"]"#, Some(Field)),
     (r#"a {"K":"lost"}"#, Some(Field)),
     (r#"a {"k":null}"#, Some(Field)),

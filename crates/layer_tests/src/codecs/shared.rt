@@ -4,8 +4,9 @@ use std::alloc::{AllocError, Global};
 use std::hash::RandomState;
 use std::test::Fail;
 
-/// Texts: of 1, 0, 3, 14 and 15 bytes, of 15 that end in a character of two, of 16, 40, 41, 104 and 105.
-static TEXTS: [&str; 11] = [
+/// Texts: of 1, 0, 3, 14 and 15 bytes, of 15 that end in a character of two, of 16, 40, 41, 104, 105, 168, 169, 232 and
+/// 233.
+static TEXTS: [&str; 15] = [
     "r",
     "",
     "\u{20ac}",
@@ -17,6 +18,10 @@ static TEXTS: [&str; 11] = [
     "forty-one bytes stand in the second block",
     "one hundred and four bytes stand in the second of the blocks, as many as it may have, the last of them:.",
     "one hundred and five bytes stand in the third of the blocks, one more than the second may have: this one.",
+    "one hundred and sixty-eight bytes stand in the third block and so on and so on and so on and so on and so on and so on and so on and so on and so on and so on and so on",
+    "one hundred and sixty-nine bytes stand in the fourth block and so on and so on and so on and so on and so on and so on and so on and so on and so on and so on and so on.",
+    "two hundred and thirty-two bytes stand in the fourth block and so on and so on and so on and so on and so on and so on and so on and so on and so on and so on and so on and so on and so on and so on and so on and so on and so on....",
+    "two hundred and thirty-three bytes stand in a block of their own and so on and so on and so on and so on and so on and so on and so on and so on and so on and so on and so on and so on and so on and so on and so on and so on.........",
 ];
 
 /// Whether these are the texts, in their order.
