@@ -6,5 +6,6 @@ mod Lanes
 mod Runs
 mod Strings
 mod Numbers
+mod Listed
 mod Ordinary
 pub mod Shown

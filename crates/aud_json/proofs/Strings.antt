@@ -3,7 +3,7 @@ use Rattle.std.proofs.Common.{◌≡◌, ◌==◌, ◌||◌, zero, suc, ℕ, ◌
 use Rattle.std.proofs.lemmas.Bool.{cases_eq, ne_eqb, le-ltb, or_parts, not-true, eqb-false, ltb-false}
 use Rattle.std.proofs.lemmas.List.{append-nil, drop_more, drop-drop}
 use Rattle.std.specs.List.{prefix_len}
-use Rattle.json.specs.Token.{string, end_object}
+use Rattle.json.specs.Token.{string, end_object, begin_array, end_array}
 use Rattle.json.specs.Text.{content, plain, prepend, short_escape}
 use Rattle.json.specs.Word.{is_operator, is_space}
 use Rattle.json.specs.Run.{is_plain}
@@ -149,3 +149,13 @@ lex_comma text rest e = ap (lex between) e
 pub lex_close : (text : List ℕ) → text ≡ 125 ∷ [] → lex between text ≡ token end_object ∷ []
 unfolding lex
 lex_close text e = ap (lex between) e
+
+-- a bracket before items
+pub lex_open_list : (text rest : List ℕ) → text ≡ 91 ∷ rest → lex between text ≡ token begin_array ∷ lex between rest
+unfolding lex
+lex_open_list text rest e = ap (lex between) e
+
+-- a bracket after items
+pub lex_close_list : (text rest : List ℕ) → text ≡ 93 ∷ rest → lex between text ≡ token end_array ∷ lex between rest
+unfolding lex
+lex_close_list text rest e = ap (lex between) e

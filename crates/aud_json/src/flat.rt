@@ -1,8 +1,8 @@
 //! A fast way for ordinary objects, in one pass over their bytes.
 //!
 //! It reads an object with at least one member and no white space, whose keys have no escapes, and whose values are
-//! texts with no escape but the short ones (`\n`, and not `\u000a`) and whole numbers of at most 15 digits. Of any other
-//! text it says nothing, and that is then read from its start by [`json::Reader`].
+//! texts with no escape but the short ones (`\n`, and not `\u000a`), whole numbers of at most 15 digits, and lists of
+//! texts with no escape. Of any other text it says nothing, and that is then read from its start by [`json::Reader`].
 ghost use Rattle.std.specs.Prelude.{◌≡◌, ◌<◌, ◌≤◌, [], ◌∷◌, length, Some, IfOk, IfSome, IsTrue};
 ghost use Rattle.std.specs.List.{prefix_len};
 ghost use Rattle.std.specs.Char.{is_ascii_digit};
@@ -13,7 +13,7 @@ ghost use Rattle.serde_json.specs.Data.{Data, object};
 ghost use Rattle.serde_json.specs.Read.{read};
 ghost use Rattle.aud_json.specs.Shown.{shown};
 ghost use Rattle.aud_json.specs.View.{members_view};
-ghost use Rattle.aud_json.specs.Private.Flat.{IsToken};
+ghost use Rattle.aud_json.specs.Private.Flat.{AreRead, IsRead, IsToken};
 
 use crate::field::Field;
 use crate::number::number;
@@ -84,9 +84,47 @@ fn whole_number<'a>(text: &'a str) -> Option<(Field<'a>, &'a str)>
     Some((Field::Number(number), &text[count..]))
 }
 
-/// A field, what follows it, and the room that is left.
+/// A text with no escape, and what follows it.
 #[inline(always)]
-fn field<'a>(text: &'a str, room: &'a mut [u8]) -> Option<(Field<'a>, &'a str, &'a mut [u8])>
+fn quoted<'a>(text: &'a str) -> Option<(&'a str, &'a str)>
+    ensures read { IfSome result (λ p. lex between text.now
+        ≡ token (string p.0.now) ∷ lex between p.1.now) }
+    ensures shorter { IfSome result (λ p. length p.1.now < length text.now) }
+{
+    let (found, rest) = plain_text(after(text, b'"')?)?;
+    Some((found, rest))
+}
+
+/// The texts of a list with some, after its bracket, and what follows the list.
+fn texts<'a>(
+    alloc: Global,
+    text: &'a str,
+) -> Result<Option<(Vec<Option<&'a str>>, &'a str)>, AllocError>
+    ensures read { IfOk result (λ found. IfSome found
+        (λ p. AreRead text.now p.0.items p.1.now)) }
+    ensures shorter { IfOk result (λ found. IfSome found
+        (λ p. length p.1.now < length text.now)) }
+{
+    let mut found = Vec::new(alloc);
+    let mut rest = text;
+    'items: loop {
+        let Some((item, left)) = quoted(rest) else {
+            return Ok(None);
+        };
+        found.push(Some(item))?;
+        let Some(more) = after(left, b',') else {
+            let Some(outside) = after(left, b']') else {
+                return Ok(None);
+            };
+            return Ok(Some((found, outside)));
+        };
+        rest = more;
+    }
+}
+
+/// A text or a number, what follows it, and the room that is left.
+#[inline(always)]
+fn single<'a>(text: &'a str, room: &'a mut [u8]) -> Option<(Field<'a>, &'a str, &'a mut [u8])>
     ensures read { IfSome result (λ p. (t : Token)
         × (lex between text.now ≡ token t ∷ lex between p.1.now) × IsToken t p.0) }
     ensures shorter { IfSome result (λ p. length p.1.now < length text.now) }
@@ -100,6 +138,29 @@ fn field<'a>(text: &'a str, room: &'a mut [u8]) -> Option<(Field<'a>, &'a str, &
     }
     let (text, rest, left) = unescaped(inner, room)?;
     Some((Field::Text(text), rest, left))
+}
+
+/// A field, what follows it, and the room that is left.
+#[inline(always)]
+fn field<'a>(
+    alloc: Global,
+    text: &'a str,
+    room: &'a mut [u8],
+) -> Result<Option<(Field<'a>, &'a str, &'a mut [u8])>, AllocError>
+    ensures read { IfOk result (λ found. IfSome found (λ p. IsRead text.now p.0 p.1.now)) }
+    ensures shorter { IfOk result (λ found. IfSome found
+        (λ p. length p.1.now < length text.now)) }
+{
+    let Some(inner) = after(text, b'[') else {
+        let Some((field, rest, left)) = single(text, room) else {
+            return Ok(None);
+        };
+        return Ok(Some((field, rest, left)));
+    };
+    let Some((items, rest)) = texts(alloc, inner)? else {
+        return Ok(None);
+    };
+    Ok(Some((Field::List(items), rest, room)))
 }
 
 /// A key, and what follows its colon.
@@ -139,7 +200,7 @@ pub fn flat_members<'a>(
         let Some((key, colon_passed)) = key(rest) else {
             return Ok(None);
         };
-        let Some((field, left, less_room)) = field(colon_passed, room) else {
+        let Some((field, left, less_room)) = field(alloc, colon_passed, room)? else {
             return Ok(None);
         };
         found.push((key, field))?;

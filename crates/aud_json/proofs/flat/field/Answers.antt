@@ -1,16 +1,18 @@
-use Rattle.std.proofs.Common.{◌≡◌, ◌∷◌, refl, arith}
-use Rattle.json.specs.Token.{string}
-use Rattle.aud_json.proofs.Strings.{lex_string}
+use Rattle.std.proofs.Common.{refl}
+use Rattle.aud_json.specs.declared.field.Field.TheVariants as variant
+use Rattle.aud_json.proofs.Ordinary.{list_read, token_read}
+use Rattle.aud_json.proofs.Strings.{lex_open_list}
 use Rattle.aud_json.proofs.flat.field.Goals as goal
 
-pub returns-in-Some-plain_text-clause-read : goal.returns-in-Some-plain_text-clause-read
-returns-in-Some-plain_text-clause-read c =
-    let quoted : c.args.text.now ≡ 34 ∷ c.in-Some.inner.now = grind arith in
-    let found = c.in-Some-plain_text in
-    (string found.text.now, lex_string _ _ found.text.now found.rest.now quoted found.ensures.read.0 found.ensures.read.1, refl)
+pub returns-in_default-clause-read : goal.returns-in_default-clause-read
+returns-in_default-clause-read c =
+    let found = c.in-Some-single in
+    let read = found.ensures.read in
+    token_read c.args.text.now found.rest.now read.0 found.field read.1 read.2
 
 pub returns-clause-read : goal.returns-clause-read
 returns-clause-read c =
-    let quoted : c.args.text.now ≡ 34 ∷ c.in-Some.inner.now = grind arith in
-    let found = c.in_ok-text in
-    (string found.text.now, lex_string _ _ found.text.now found.rest.now quoted found.ensures.read.0 found.ensures.read.1, refl)
+    let found = c.in-Some-2 in
+    let items = rw found.is at c.in_ok-items.ensures.read in
+    let inner = c.in-Some.inner.now in
+    list_read c.args.text.now inner found.rest.now found.items.items (variant.List found.items) refl (lex_open_list c.args.text.now inner c.in-Some.ensures) items

@@ -15,22 +15,22 @@ pub returns-in_default-after : goal.returns-in_default-after
 returns-in_default-after c =
     let start = punctuate fresh (lex between c.in-Some.rest.now) in
     let b = c.members.invariant.0 in
-    let f = c.in-Some-field in
-    let t = f.ensures.read in
+    let f = c.in-Some-2 in
+    let t = rw f.is at c.in_ok-field.ensures.read in
     let closed : f.left.now ≡ 125 ∷ [] = grind arith in
     let named = c.in-Some-key.ensures.read in
-    let last = begun_last start c.members.found.items c.members.rest.now b c.in-Some-key.key t.0 f.field c.in-Some-key.colon_passed.now f.left.now t.2 named t.1 (lex_close f.left.now closed) in
+    let last = begun_last start c.members.found.items c.members.rest.now b c.in-Some-key.key f.field c.in-Some-key.colon_passed.now f.left.now named t (lex_close f.left.now closed) in
     (object last.0, object_read c.args.text.now c.in-Some.rest.now last.0 c.in-Some.ensures last.1, ap object (last.2 ∙ ap members_view (sym c.in_ok-push.ensures.items)))
 
 pub members-preserved : goal.members-preserved
 members-preserved c =
     let start = punctuate fresh (lex between c.in-Some.rest.now) in
     let b = c.members.invariant.0 in
-    let f = c.in-Some-field in
-    let t = f.ensures.read in
+    let f = c.in-Some-2 in
+    let t = rw f.is at c.in_ok-field.ensures.read in
     let named = c.in-Some-key.ensures.read in
     let more = c.in-Some-after.more.now in (
       subst (λ ms. Begun start ms more) (sym c.in_ok-push.ensures.items)
-          (begun_more start c.members.found.items c.members.rest.now b c.in-Some-key.key t.0 f.field c.in-Some-key.colon_passed.now f.left.now t.2 named t.1 more (lex_comma f.left.now more c.in-Some-after.ensures)),
+          (begun_more start c.members.found.items c.members.rest.now b c.in-Some-key.key f.field c.in-Some-key.colon_passed.now f.left.now named t more (lex_comma f.left.now more c.in-Some-after.ensures)),
       search rules,
     )
