@@ -22,7 +22,7 @@ _sioaudit_values() {
         explain--fail-on) echo 'delivery packets recording refused nothing NOLOG CHAIN ORDER CLIENT NAMES FRAME ORPHAN CONTENT EXTRA DOUBLED SWAPPED LOST WINDOW TAIL' ;;
         explain--pid | explain--record | split--parts) ;;
         split--bytes) echo '64M 256M 1G 4G' ;;
-        simulate--fault) echo 'drop double hold alter garble lag unknown-offset no-reply other-sid no-open no-join no-break take-twice' ;;
+        simulate--fault) echo 'drop double hold alter garble lose-attachment lag unknown-offset cut-before-reply no-reply other-sid no-open no-join no-break take-twice' ;;
         simulate--nodes | simulate--clients | simulate--acts | simulate--seed) ;;
         *) return 1 ;;
     esac

@@ -51,15 +51,15 @@ pub fn try_map<
     }
 }
 
-/// How much a thread's heap is to grow at once.
-const ROOM: usize = 8_388_608;
+/// The most by which a thread's heap is to grow at once.
+const MOST_ROOM: usize = 8_388_608;
 
-/// Asks for a large block and gives it back, so that this thread's heap has room for what comes next, where there is
-/// memory for it. A heap of glibc's that many small blocks are asked of grows by one page a time, and each time all
-/// threads are interrupted; and what they give back goes to the system in small steps, unless a block of this size was
-/// given back.
-pub fn make_room(alloc: Global) {
-    if let Ok(block) = Vec::<u8>::with_capacity(alloc, ROOM) {
+/// Asks for a block of so many bytes, 8 MiB at most, and gives it back, so that this thread's heap has room for what
+/// comes next, where there is memory for it. A heap of glibc's that many small blocks are asked of grows by one page a
+/// time, and each time all threads are interrupted; and what they give back goes to the system in small steps, unless a
+/// block of a few MiB was given back. So who asks for more than comes next keeps memory from the system.
+pub fn make_room(alloc: Global, bytes: usize) {
+    if let Ok(block) = Vec::<u8>::with_capacity(alloc, bytes.min(MOST_ROOM)) {
         drop(block);
     }
 }

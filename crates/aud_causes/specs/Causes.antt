@@ -2,7 +2,7 @@
 use Rattle.std.specs.Prelude.{◌≡◌, ℕ, Bool, true, false, ◌&&◌, List, [], length, map, nat_eq, Option, Some, None}
 use Rattle.aud_node.specs.Cluster.{Cluster}
 use Rattle.aud_node.specs.Stream.{Text}
-use Rattle.aud_client.specs.Received.{stays_naming, stays_numbered}
+use Rattle.aud_client.specs.Received.{numbers_naming}
 use Rattle.aud_cert.specs.declared.fault.Fault.{Fault}
 use Rattle.aud_cert.specs.declared.fault.Fault.TheVariants as fault
 use Rattle.aud_maker.specs.Made.{IsMade}
@@ -29,7 +29,7 @@ AreFound c client numbers pid noted (Some a) fault found =
 -- these are the numbers of the stays of the client's tap at this place, if there is one, whose reply names the session
 abbrev pub AreNumbersAt : Cluster → Option ℕ → Text → List ℕ → Type 0
 AreNumbersAt c None pid numbers = numbers ≡ []
-AreNumbersAt c (Some client) pid numbers = stays_numbered (stays_at c client) numbers ≡ stays_naming pid (stays_at c client)
+AreNumbersAt c (Some client) pid numbers = numbers ≡ numbers_naming pid (stays_at c client)
 
 -- several causes of such a fault are known: of these faults only one is
 abbrev pub has_others : Fault → Bool
@@ -51,7 +51,7 @@ abbrev pub AreCauses : Cluster → List TapLines → Option ℕ → Text → Not
 AreCauses c lines client pid noted account (Yes got tail turns) causes = causes ≡ []
 AreCauses c lines client pid noted account (No fault) causes = AreToldCauses c lines client pid noted account fault causes
 
--- there is one cause, of a fault that can have others
+-- there is one cause, of a fault that can have others: it is certain
 abbrev pub is_sure : Verdict → List CauseFound → Bool
 is_sure (Yes got tail turns) causes = false
 is_sure (No fault) causes = has_others fault && nat_eq (length causes) 1

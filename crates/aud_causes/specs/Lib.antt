@@ -3,6 +3,7 @@ pub use Rattle.aud_node.specs.Stream
 pub use Rattle.aud_rows.specs.ClientPlaces
 pub use Rattle.aud_maker.specs.Made
 pub use Rattle.aud_session_facts.specs.Account
+pub use Rattle.aud_explanation.specs.CauseState
 pub mod Filled
 pub mod NoPacket
 pub mod Words
@@ -26,7 +27,9 @@ pub mod Twice
 pub mod Chain
 pub mod Recorded
 pub mod Judged
+pub mod State
 pub mod Found
+pub mod Candidates
 pub mod Refusals
 pub mod Causes
 -- what private contracts alone cite

@@ -3,6 +3,7 @@ ghost use Rattle.std.specs.Prelude.{◌≡◌, All, IfOk, IfSome};
 ghost use Rattle.std.specs.Option.{option_copied};
 ghost use Rattle.aud_maker.specs.Made.{IsMade};
 ghost use Rattle.aud_rows.specs.ClientPlaces.{AreOf};
+ghost use Rattle.aud_explanation.specs.CauseState.{is_certain};
 ghost use Rattle.aud_causes.specs.Causes.{AreCauses, AreFound, AreNumbersAt, has_others, is_sure};
 ghost use Rattle.aud_causes.specs.Records.{place_of};
 
@@ -29,7 +30,7 @@ pub struct Noted {
 }
 
 /// What the fault of the session with this pid may come from: of the causes that such a fault can have those that hold,
-/// in a fixed order. One is sure exactly where it is the only one, and the fault can have others. `tap` is that of the
+/// in a fixed order. One is certain exactly where it is the only one, and the fault can have others. `tap` is that of the
 /// session's client, if one alone names it; the account is the session's, if it has one.
 ///
 /// It costs the session's own records and stays, and what was due to it.
@@ -50,7 +51,7 @@ pub fn causes_of<'r, 'a>(
         (place_of (option_copied tap.entry)) pid.now noted.now
         (option_copied account.entry) verdict.now causes.items) }
     ensures sure { IfOk result (λ causes. All
-        (λ cause. cause.sure ≡ is_sure verdict.now causes.items) causes.items) }
+        (λ cause. is_certain cause.state ≡ is_sure verdict.now causes.items) causes.items) }
 {
     let Verdict::No(fault) = verdict else {
         return Ok(Vec::new(alloc));

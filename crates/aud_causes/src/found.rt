@@ -8,7 +8,9 @@ ghost use Rattle.aud_causes.specs.Records.{name_of, node_of, place_of};
 use crate::cause::Cause;
 use crate::lines::lines_at;
 use crate::record_at::{node_of, records_of};
+use crate::state::state_of;
 use crate::why::why_text;
+use aud_explanation::CauseState;
 use aud_node::Logs;
 use aud_rows::{ClientPlaces, Sheet};
 use std::alloc::{AllocError, Global};
@@ -18,8 +20,8 @@ use std::alloc::{AllocError, Global};
 pub struct CauseFound {
     /// The name of the cause, for scripts: lower-case words joined by `-`.
     pub id: &'static str,
-    /// Whether the fault can have other causes, and none of them holds.
-    pub sure: bool,
+    /// How it stands beside the others that hold, and those that were ruled out.
+    pub state: CauseState,
     /// The lines of the records that show it.
     pub lines: Vec<u64>,
     /// What happened, in a sentence.
@@ -28,7 +30,7 @@ pub struct CauseFound {
     pub todo: &'static str,
 }
 
-/// The causes, as they are told: each is sure exactly where it is the only one, and others were tried.
+/// The causes, as they are told: all that hold, where there are others that were ruled out if there is one, or not.
 pub(crate) fn shown_causes(
     alloc: Global,
     sheet: &Sheet<'_, '_>,
@@ -42,10 +44,10 @@ pub(crate) fn shown_causes(
         ≡ shown_causes sheet.now.recording.now sheet.now.lines.now
         (place_of (option_copied tap.entry)) numbers.now others found.now) }
 {
-    let sure = others && found.len() == 1;
     let mut causes = Vec::new(alloc);
     for cause in found {
-        causes.push(shown_cause(alloc, sheet, tap, numbers, sure, *cause)?)?;
+        let state = state_of(others, found, *cause);
+        causes.push(shown_cause(alloc, sheet, tap, numbers, state, *cause)?)?;
     }
     Ok(causes)
 }
@@ -55,20 +57,20 @@ fn shown_cause(
     sheet: &Sheet<'_, '_>,
     tap: Option<&ClientPlaces>,
     numbers: &[usize],
-    sure: bool,
+    state: CauseState,
     cause: Cause,
 ) -> Result<CauseFound, AllocError>
     requires { IfSome (option_copied tap) (AreOf sheet.now.recording.now) }
     ensures { IfOk result (λ shown. cause_seen shown
         ≡ shown_cause sheet.now.recording.now sheet.now.lines.now
-        (place_of (option_copied tap.entry)) numbers.now sure cause) }
+        (place_of (option_copied tap.entry)) numbers.now state cause) }
 {
     let lines = lines_at(alloc, sheet, tap, numbers, &records_of(cause))?;
     let node = name_of(sheet.recording.logs(), node_of(cause));
     let why = why_text(alloc, cause, node)?;
     Ok(CauseFound {
         id: cause.id(),
-        sure,
+        state,
         lines,
         why,
         todo: cause.todo(),

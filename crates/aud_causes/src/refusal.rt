@@ -16,7 +16,7 @@ use aud_session_facts::{Mark, RecordPlace, Recovery, TurnMark, stay_of, turn_mar
 use std::alloc::{AllocError, Global};
 
 /// What the refusal of this recovery may come from: of the causes that it can have those that hold, in a fixed order.
-/// One is sure exactly where it is the only one. `tap` is that of the client. It costs the records that begin and end
+/// One is certain exactly where it is the only one. `tap` is that of the client. It costs the records that begin and end
 /// the turns of two sessions: of the one that was asked for, and of the one that the client got.
 pub fn causes_of_refusal<'r>(
     alloc: Global,

@@ -7,6 +7,9 @@ use Rattle.std.proofs.lemmas.List.Elements.{filter_map-append}
 use Rattle.aud_base.specs.Lists.{numbers_from}
 use Rattle.aud_base.specs.Places.{places_where}
 use Rattle.aud_base.proofs.Lists.{after_these}
+use Rattle.aud_node.specs.Stream.{Text}
+use Rattle.aud_client.specs.StaySeen.{StaySeen}
+use Rattle.aud_client.specs.Received.{numbers_naming, stay_names_pid, stays_naming, stays_numbered}
 
 module _ {X : Type 0} where
   -- the elements with the numbers kept are those that pass: of the last ones, which stand after n others
@@ -30,3 +33,7 @@ module _ {X : Type 0} where
   numbered-next xs numbers i o old new within is before after =
       after ∙ ap (λ zs. zs ++ cons_option o []) before ∙ ap (λ u. filter_map (slice_get xs) (take i numbers) ++ cons_option u []) is
       ∙ sym (ap (filter_map (slice_get xs)) (take_more numbers i 0 within) ∙ filter_map-append (slice_get xs) (take i numbers) (get_or numbers i 0 ∷ []))
+
+-- the stays with the numbers of those that name a session are those that name it
+pub numbered_naming : (pid : Text) (ss : List StaySeen) → stays_numbered ss (numbers_naming pid ss) ≡ stays_naming pid ss
+numbered_naming pid ss = numbered_all (stay_names_pid pid) ss

@@ -1,7 +1,9 @@
 -- What a client received: the stays of all connections of its tap, and the received list of a session.
-use Rattle.std.specs.Prelude.{ℕ, Bool, true, false, not, ◌&&◌, List, [], ◌∷◌, ◌++◌, map, flat_map, Option, Some, None, is_some, if◌then◌else◌, option_map, slice_get}
+use Rattle.std.specs.Prelude.{ℕ, Bool, true, false, not, ◌&&◌, List, [], ◌∷◌, ◌++◌, length, map, flat_map, Option, Some, None, is_some, if◌then◌else◌, option_map, slice_get}
 use Rattle.std.specs.List.{filter, filter_map, list_any, list_all}
+use Rattle.std.specs.Option.{option_map_or}
 use Rattle.std.specs.Str.{bytes_eq}
+use Rattle.aud_base.specs.Places.{places_where}
 use Rattle.aud_tap.specs.declared.records.StreamRec.{StreamRec}
 use Rattle.aud_tap.specs.declared.records.ClientRec.{ClientRec}
 use Rattle.aud_node.specs.Stream.{Text}
@@ -73,6 +75,10 @@ is_recovered stay = asked_for_reply stay.asked stay.reply
 
 abbrev pub stays_naming : Text → List StaySeen → List StaySeen
 stays_naming pid ss = filter (stay_names_pid pid) ss
+
+-- the numbers, ascending, of those stays; stays count from 0
+abbrev pub numbers_naming : Text → List StaySeen → List ℕ
+numbers_naming pid ss = places_where (λ k. option_map_or (stay_names_pid pid) (slice_get ss k) false) (length ss)
 
 -- the stays with these numbers, which count from 0
 abbrev pub stays_numbered : List StaySeen → List ℕ → List StaySeen

@@ -3,7 +3,7 @@ ghost use Rattle.std.specs.Prelude.{◌≡◌, IfOk, OnOk};
 ghost use Rattle.std.specs.List.{list_any};
 ghost use Rattle.aud_base.specs.Places.{noted, places_of};
 ghost use Rattle.aud_node.specs.Stream.{Text};
-ghost use Rattle.aud_client.specs.Received.{stay_names_pid, stays_naming, stays_numbered};
+ghost use Rattle.aud_client.specs.Received.{numbers_naming, stay_names_pid};
 
 use crate::stay::Stay;
 use aud_base::Places;
@@ -18,7 +18,7 @@ pub fn by_session(
     stays: &[Stay<'_>],
 ) -> Result<Places, AllocError>
     ensures { IfOk result (λ kept. (pid : Text)
-        → stays_numbered stays.now (places_of kept pid) ≡ stays_naming pid stays.now) }
+        → places_of kept pid ≡ numbers_naming pid stays.now) }
 {
     let mut kept = Places::new(alloc, keys);
     for (number, stay) in stays.iter().enumerate() {

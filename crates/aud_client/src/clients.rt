@@ -15,6 +15,9 @@ use std::alloc::{AllocError, Global};
 use std::hash::RandomState;
 use std::thread::Threads;
 
+/// The bytes of memory that what a record tells may take, while the list that has it grows.
+const RECORD_ROOM: usize = 128;
+
 /// What the clients' taps tell, each read once.
 #[derive(Drop)]
 pub struct Clients<'a> {
@@ -79,7 +82,7 @@ fn transcript_at<'a>(
 {
     match logs.client(place) {
         Some(recs) => {
-            make_room(alloc);
+            make_room(alloc, recs.len().saturating_mul(RECORD_ROOM));
             let transcript = IndexedTranscript::read(alloc, keys, recs, logs.stream())?;
             Ok(Some(transcript))
         }

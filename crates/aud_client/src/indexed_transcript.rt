@@ -1,7 +1,7 @@
 //! A client's tap that was read, with its stays by session.
 ghost use Rattle.std.specs.Prelude.{◌≡◌, IfOk, map, slice_get};
 ghost use Rattle.std.specs.Option.{option_copied};
-ghost use Rattle.aud_client.specs.Received.{transcript_of, stays_naming, stays_numbered};
+ghost use Rattle.aud_client.specs.Received.{transcript_of, numbers_naming, stays_naming, stays_numbered};
 
 use crate::by_session::by_session;
 use crate::stay::Stay;
@@ -62,12 +62,13 @@ impl<'a> IndexedTranscript<'a> {
     /// The numbers, ascending, of the stays whose reply names the session, borrowed; stays count from 0 in the tap's
     /// order.
     pub fn numbers_naming(&self, pid: &str) -> &[usize]
-        ensures { stays_numbered self.now.stays result.now ≡ stays_naming pid.now self.now.stays }
+        ensures { result.now ≡ numbers_naming pid.now self.now.stays }
     {
         self.by_session.of(pid)
     }
 
     /// The stays whose reply names the session, in the tap's order, borrowed. No other stay is looked at.
+    #[tactic(auto, using(crate::proofs::Numbers::numbered_naming))]
     pub fn naming<'s>(&'s self, alloc: Global, pid: &str) -> Result<Vec<&'s Stay<'a>>, AllocError>
         ensures { IfOk result (λ naming. map (λ stay. stay.now) naming.items
             ≡ stays_naming pid.now self.now.stays) }

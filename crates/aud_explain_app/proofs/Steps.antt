@@ -17,6 +17,7 @@ use Rattle.aud_input.specs.declared.input_file.InputFile.{InputFile}
 use Rattle.aud_input.specs.TapLines.{TapLines}
 use Rattle.aud_verdict.specs.declared.verdict.SessionVerdict.{SessionVerdict}
 use Rattle.aud_explain_app.specs.Strangers.{AreAdded, AreKnown, IsJudged, asked_in_vain, has_pid, pid_in_vain, pids_of, with_pids}
+use Rattle.aud_explain_app.specs.Alike.{Telling}
 use Rattle.aud_explain_app.specs.Explained.{IsExplained}
 use Rattle.aud_explain_app.specs.Texts.{AddTexts, IsTextOf}
 use Rattle.aud_explain_app.specs.Written.{IsWritten}
@@ -133,7 +134,7 @@ abbrev from : {X : Type 0} → List X → ℕ → List X
 from xs i = take (length xs - i) (drop i xs)
 
 -- the texts of sessions, and then those of others
-texts_joined : (c : Cluster) (lines : List TapLines) (form : Form) (files : List InputFile) (xs ys : List SessionVerdict) (a b e : List ℕ)
+texts_joined : (c : Cluster) (lines : List TapLines) (form : Form) (files : List InputFile) (xs ys : List Telling) (a b e : List ℕ)
     → AddTexts c lines form files xs a b → AddTexts c lines form files ys b e → AddTexts c lines form files (xs ++ ys) a e
 texts_joined c lines form files xs ys a b e first next =
     let one : List ℕ → List ℕ = λ text. text in
@@ -152,7 +153,7 @@ part_of xs i k h =
     ap (λ ys. take k (from xs i) ++ ys) others ∙ take-append-drop k (from xs i) ∙ rest
 
 -- the texts of the next part of a list, and then those of what comes after it
-pub texts_part : {X : Type 0} (c : Cluster) (lines : List TapLines) (form : Form) (files : List InputFile) (f : X → SessionVerdict) (xs : List X) (i k : ℕ) (a b e : List ℕ) → k ≤ length (from xs i)
+pub texts_part : {X : Type 0} (c : Cluster) (lines : List TapLines) (form : Form) (files : List InputFile) (f : X → Telling) (xs : List X) (i k : ℕ) (a b e : List ℕ) → k ≤ length (from xs i)
     → AddTexts c lines form files (map f (take k (from xs i))) a b → AddTexts c lines form files (map f (drop (i + length (take k (from xs i))) xs)) b e
     → AddTexts c lines form files (map f (drop i xs)) a e
 texts_part c lines form files f xs i k a b e h first next =
@@ -162,11 +163,11 @@ texts_part c lines form files f xs i k a b e h first next =
     (texts_joined c lines form files (map f part) (map f others) a b e first next)
 
 -- no texts
-pub texts_none : {X : Type 0} (c : Cluster) (lines : List TapLines) (form : Form) (files : List InputFile) (f : X → SessionVerdict) (xs : List X) (a : List ℕ) → xs ≡ [] → AddTexts c lines form files (map f xs) a a
+pub texts_none : {X : Type 0} (c : Cluster) (lines : List TapLines) (form : Form) (files : List InputFile) (f : X → Telling) (xs : List X) (a : List ℕ) → xs ≡ [] → AddTexts c lines form files (map f xs) a a
 texts_none c lines form files f xs a is =
     subst (λ ys. AddTexts c lines form files (map f ys) a a) (sym is) (record { texts = []; are_texts = tt; added = sym (append-nil a) })
 
-module _ {X T : Type 0} (c : Cluster) (lines : List TapLines) (form : Form) (files : List InputFile) (f : X → SessionVerdict) (g : T → List ℕ) where
+module _ {X T : Type 0} (c : Cluster) (lines : List TapLines) (form : Form) (files : List InputFile) (f : X → Telling) (g : T → List ℕ) where
   -- a text for each session, made apart from the others
   abbrev AreMade : List X → List T → Type 0
   AreMade = AllZip (λ x t. IsTextOf c lines form files (f x) (g t))
@@ -186,10 +187,10 @@ module _ {X T : Type 0} (c : Cluster) (lines : List TapLines) (form : Form) (fil
   texts_put xs ts a b made put = record { texts = map g ts; are_texts = each_text xs ts made; added = put ∙ ap (λ t. a ++ t) (all_texts ts) }
 
 -- the text of a session by its pid and its refused recoveries
-pub text_by : (c : Cluster) (lines : List TapLines) (form : Form) (files : List InputFile) (session : SessionVerdict) (pid : Text) (refused : List Recovery) (told : Explained) (text : List ℕ) → pid ≡ session.pid
-    → refused ≡ refused_of c session.pid → IsExplained c lines pid session.verdict refused told → IsWritten form files pid session.verdict told text → IsTextOf c lines form files session text
-text_by c lines form files session pid refused told text is are explained written = record {
+pub text_by : (c : Cluster) (lines : List TapLines) (form : Form) (files : List InputFile) (t : Telling) (pid : Text) (refused : List Recovery) (told : Explained) (text : List ℕ) → pid ≡ t.session.pid
+    → refused ≡ refused_of c t.session.pid → IsExplained c lines pid t.session.verdict refused told → IsWritten form files pid t.session.verdict t.alike told text → IsTextOf c lines form files t text
+text_by c lines form files t pid refused told text is are explained written = record {
   told = told;
-  is_explained = subst (λ p. IsExplained c lines p session.verdict (refused_of c session.pid) told) is (subst (λ r. IsExplained c lines pid session.verdict r told) are explained);
-  is_written = subst (λ p. IsWritten form files p session.verdict told text) is written;
+  is_explained = subst (λ p. IsExplained c lines p t.session.verdict (refused_of c t.session.pid) told) is (subst (λ r. IsExplained c lines pid t.session.verdict r told) are explained);
+  is_written = subst (λ p. IsWritten form files p t.session.verdict t.alike told text) is written;
 }

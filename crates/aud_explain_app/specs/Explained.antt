@@ -9,9 +9,10 @@ use Rattle.aud_session_facts.specs.Account.{IsAccountOf}
 use Rattle.aud_causes.specs.declared.causes.Noted.{Noted}
 use Rattle.aud_causes.specs.declared.found.CauseFound.{CauseFound}
 use Rattle.aud_causes.specs.Causes.{AreCauses, is_sure}
+use Rattle.aud_explanation.specs.CauseState.{is_certain}
 use Rattle.aud_cert.specs.declared.fault.Fault.{Fault}
 use Rattle.aud_client.specs.Replies.{naming_places}
-use Rattle.aud_findings.specs.Also.{IsAlsoShown, also_seen}
+use Rattle.aud_findings.specs.Also.{IsAlsoShown, others_seen}
 use Rattle.aud_findings.specs.ClientShown.{client_of, client_seen, only_of}
 use Rattle.aud_findings.specs.Evidence.{IsEvidence}
 use Rattle.aud_findings.specs.Received.{IsReceivedShown}
@@ -44,10 +45,10 @@ pub record IsExplained (c : Cluster) (lines : List TapLines) (pid : Text) (verdi
   pub evidence : IsEvidence c lines pid (is_some account) verdict (map row_seen told.outcome.evidence.items)
   pub client : option_map client_seen told.outcome.client ≡ client_of c pid (map row_seen told.outcome.evidence.items)
   pub received : IsReceivedShown c pid (is_some account) verdict told.outcome.account
-  pub also : IsAlsoShown c lines pid (is_some account) verdict (map also_seen told.outcome.also.items)
+  pub also : IsAlsoShown c lines pid (is_some account) verdict (others_seen told.outcome.also)
   pub turns : map turn_seen told.turns.items ≡ turns_told c lines pid account
   pub recoveries : AllZip (IsRefusedTold c lines) refused told.refused.items
   pub events : AreEvents c lines (only_of (naming_places c.taps pid)) pid refused told.events.items
-  -- a cause is sure exactly where it is the only one, and the fault can have others
+  -- a cause is certain exactly where it is the only one, and the fault can have others
   pub causes : AreCauses c lines (only_of (naming_places c.taps pid)) pid noted account verdict told.causes.items
-  pub sure : All (λ (cause : CauseFound). cause.sure ≡ is_sure verdict told.causes.items) told.causes.items
+  pub sure : All (λ (cause : CauseFound). is_certain cause.state ≡ is_sure verdict told.causes.items) told.causes.items

@@ -1,9 +1,12 @@
 -- What is told, as an explanation lends it.
-use Rattle.std.specs.Prelude.{List, flat_map, map, option_to_list, Option}
+use Rattle.std.specs.Prelude.{ℕ, List, flat_map, map, option_to_list, Option}
 use Rattle.std.specs.Option.{option_copied, option_map}
+use Rattle.aud_causes.specs.declared.found.CauseFound.{CauseFound}
 use Rattle.aud_causes.specs.Found.{CauseSeen, cause_seen}
 use Rattle.aud_explanation.specs.declared.also.Also.{Also}
 use Rattle.aud_explanation.specs.declared.cause.Cause.{Cause}
+use Rattle.aud_explanation.specs.declared.cause.CauseOf.{CauseOf}
+use Rattle.aud_explanation.specs.declared.cause.CauseOf.TheVariants.{Refused}
 use Rattle.aud_explanation.specs.declared.refused.RefusedRecovery.{RefusedRecovery}
 use Rattle.aud_findings.specs.Also.{AlsoSeen}
 use Rattle.aud_rows.specs.Seen.{row_seen}
@@ -12,10 +15,15 @@ use Rattle.aud_timeline.specs.Refused.{RefusedSeen, missed_seen, refused_seen}
 use Rattle.aud_explain_app.specs.declared.refused_told.RefusedTold.{RefusedTold}
 
 abbrev pub also_told : Also → AlsoSeen
-also_told also = record { position = also.position; lines = also.lines.now }
+also_told also = record { position = also.position; to = also.to; lines = also.lines.now }
 
-abbrev pub cause_told : Cause → CauseSeen
-cause_told cause = record { id = cause.id.now; sure = cause.sure; lines = cause.lines.now; why = cause.why.now; todo = cause.todo.now }
+-- what a cause is of, and the cause
+abbrev pub cause_told : Cause → CauseOf × CauseSeen
+cause_told cause = (cause.of, record { id = cause.id.now; state = cause.state; lines = cause.lines.now; why = cause.why.now; todo = cause.todo.now })
+
+-- the same of one that was found of this
+abbrev pub cause_of : CauseOf → CauseFound → CauseOf × CauseSeen
+cause_of of cause = (of, cause_seen cause)
 
 abbrev pub recovery_told : RefusedRecovery → RefusedSeen
 recovery_told r =
@@ -34,6 +42,14 @@ shown_of shown = option_to_list (option_map refused_seen shown)
 abbrev pub recoveries_shown : List RefusedTold → List RefusedSeen
 recoveries_shown refused = flat_map (λ (told : RefusedTold). shown_of told.shown) refused
 
--- the causes of the refusals
-abbrev pub causes_of_refusals : List RefusedTold → List CauseSeen
-causes_of_refusals refused = flat_map (λ (told : RefusedTold). map cause_seen told.causes.items) refused
+-- the line of the ask, if the recovery is shown
+abbrev pub ask_line : Option RefusedShown → Option ℕ
+ask_line shown = option_map (λ (s : RefusedShown). s.ask.line) shown
+
+-- the causes of a refusal, which are of the ask on that line
+abbrev pub causes_of_refusal : RefusedTold → List (CauseOf × CauseSeen)
+causes_of_refusal told = map (cause_of (Refused (ask_line told.shown))) told.causes.items
+
+-- those of all of them
+abbrev pub causes_of_refusals : List RefusedTold → List (CauseOf × CauseSeen)
+causes_of_refusals refused = flat_map causes_of_refusal refused

@@ -18,6 +18,7 @@ pub mod Written
 pub mod Asked
 pub mod Shown
 pub mod Chosen
+pub mod Alike
 pub mod Strangers
 pub mod Missing
 pub mod Texts

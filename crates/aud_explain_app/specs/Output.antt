@@ -37,6 +37,7 @@ use Rattle.aud_summary.specs.Text.{summary_text}
 use Rattle.aud_verdict.specs.Verdicts.{AreVerdicts}
 use Rattle.aud_explain_app.specs.RefusedLine.{refused_output}
 use Rattle.aud_explain_app.specs.Page.{IsPage}
+use Rattle.aud_explain_app.specs.Alike.{tellings}
 use Rattle.aud_explain_app.specs.Chosen.{sessions_chosen}
 use Rattle.aud_explain_app.specs.Status.{status_by}
 use Rattle.aud_explain_app.specs.declared.fault.ExplainFault.{ExplainFault}
@@ -89,9 +90,9 @@ pub record AreFigures (options : ExplainOptions) (c : Cluster) (size : Size) (ve
   pub status_is : figures.status ≡ status_by options.fail_on (says_nothing figures.summary) verdicts (recoveries_of c)
 
 -- the output over a recording, where these are the lines of its records, in these files: the explanation of each session
--- that is shown, by its verdict, with the whole where that is asked for, and the figures of all of it; sessions that
--- clients asked for in vain and that no record names are shown too, and not counted; and each pid of the words is that of
--- one of all these
+-- that is shown, by its verdict, with the whole where that is asked for, those with the same fault at the same record once,
+-- and the figures of all of it; sessions that clients asked for in vain and that no record names are shown too, and not
+-- counted; and each pid of the words is that of one of all these
 pub record IsExplaining (options : ExplainOptions) (c : Cluster) (lines : List TapLines) (files : List InputFile) (size : Size) (output : OutputSeen) : Type 0 where
   pub verdicts : List SessionVerdict
   pub are_verdicts : AreVerdicts c options.whole (sessions_of c) verdicts
@@ -99,7 +100,7 @@ pub record IsExplaining (options : ExplainOptions) (c : Cluster) (lines : List T
   pub are_sessions : AreAdded c options.whole (asked_in_vain c (recoveries_of c)) verdicts sessions
   pub none_missing : first_missing (pids_known c) options.pids ≡ None
   pub texts : List ℕ
-  pub are_texts : AddTexts c lines (form_of options.form) files (sessions_chosen c options.only options.pids sessions) [] texts
+  pub are_texts : AddTexts c lines (form_of options.form) files (tellings c options.pids (sessions_chosen c options.only options.pids sessions)) [] texts
   pub figures : Figures
   pub are_figures : AreFigures options c size verdicts figures
   pub seconds : ℕ

@@ -10,18 +10,17 @@ use Rattle.aud_input.specs.declared.input_file.InputFile.{InputFile}
 use Rattle.aud_input.specs.TapLines.{TapLines}
 use Rattle.aud_node.specs.Stream.{Text}
 use Rattle.aud_session_facts.specs.declared.asked.Recovery.{Recovery}
-use Rattle.aud_verdict.specs.declared.verdict.SessionVerdict.{SessionVerdict}
-use Rattle.aud_verdict.specs.declared.verdict.Verdict.{Verdict}
+use Rattle.aud_explain_app.specs.Alike.{Telling}
 use Rattle.aud_explain_app.specs.Asked.{refused_of}
 
--- the text is that of an explanation of the session, with its verdict and its refused recoveries
-pub record IsTextOf (c : Cluster) (lines : List TapLines) (form : Form) (files : List InputFile) (session : SessionVerdict) (text : List ℕ) : Type 0 where
+-- the text is that of an explanation of the session, with its verdict and its refused recoveries, which names the others
+pub record IsTextOf (c : Cluster) (lines : List TapLines) (form : Form) (files : List InputFile) (t : Telling) (text : List ℕ) : Type 0 where
   pub told : Explained
-  pub is_explained : IsExplained c lines session.pid session.verdict (refused_of c session.pid) told
-  pub is_written : IsWritten form files session.pid session.verdict told text
+  pub is_explained : IsExplained c lines t.session.pid t.session.verdict (refused_of c t.session.pid) told
+  pub is_written : IsWritten form files t.session.pid t.session.verdict t.alike told text
 
 -- texts of these sessions, one of each, were added
-pub record AddTexts (c : Cluster) (lines : List TapLines) (form : Form) (files : List InputFile) (sessions : List SessionVerdict) (old new : List ℕ) : Type 0 where
+pub record AddTexts (c : Cluster) (lines : List TapLines) (form : Form) (files : List InputFile) (tellings : List Telling) (old new : List ℕ) : Type 0 where
   pub texts : List (List ℕ)
-  pub are_texts : AllZip (IsTextOf c lines form files) sessions texts
+  pub are_texts : AllZip (IsTextOf c lines form files) tellings texts
   pub added : new ≡ old ++ flat_map (λ text. text) texts

@@ -1,14 +1,14 @@
 //! Lists of what is told, borrowed for an explanation.
 ghost use Rattle.std.specs.Prelude.{◌≡◌, ◌++◌, IfOk, OnOk, flat_map, map};
-ghost use Rattle.aud_causes.specs.Found.{cause_seen};
+ghost use Rattle.aud_explanation.specs.declared.cause.CauseOf.TheVariants.{Fault};
 ghost use Rattle.aud_findings.specs.Also.{also_seen};
 ghost use Rattle.std.specs.Option.{option_copied, option_map};
 ghost use Rattle.aud_timeline.specs.Refused.{missed_seen, refused_seen};
-ghost use Rattle.aud_explain_app.specs.Lent.{also_told, cause_told, causes_of_refusals, recoveries_shown, recovery_told, shown_of};
+ghost use Rattle.aud_explain_app.specs.Lent.{also_told, ask_line, cause_of, cause_told, causes_of_refusal, causes_of_refusals, recoveries_shown, recovery_told, shown_of};
 
 use crate::refused_told::RefusedTold;
 use aud_causes::CauseFound;
-use aud_explanation::{Also, Cause, Missed, RefusedRecovery};
+use aud_explanation::{Also, Cause, CauseOf, Missed, RefusedRecovery};
 use aud_findings::AlsoShown;
 use aud_timeline::RefusedShown;
 use std::alloc::{AllocError, Global};
@@ -24,6 +24,7 @@ pub(crate) fn also_lent<'l>(
     for other in others {
         lent.push(Also {
             position: other.position,
+            to: other.to,
             lines: other.lines.as_slice(),
         })?;
     }
@@ -86,34 +87,54 @@ pub(crate) fn causes_lent<'l>(
     refused: &'l [RefusedTold<'_>],
 ) -> Result<Vec<Cause<'l>>, AllocError>
     ensures { IfOk result (λ lent. map cause_told lent.items
-        ≡ map cause_seen causes.now ++ causes_of_refusals refused.now) }
+        ≡ map (cause_of Fault) causes.now ++ causes_of_refusals refused.now) }
 {
-    let own = each_lent(alloc, causes)?;
+    let own = each_lent(alloc, CauseOf::Fault, causes)?;
     let mut lent = own;
     for told in refused {
-        let more = each_lent(alloc, &told.causes)?;
+        let more = refusal_lent(alloc, told)?;
         lent.extend_from_slice(&more)?;
     }
     Ok(lent)
 }
 
-/// Each of these causes.
-fn each_lent<'l>(alloc: Global, causes: &'l [CauseFound]) -> Result<Vec<Cause<'l>>, AllocError>
-    ensures { IfOk result (λ lent. map cause_told lent.items ≡ map cause_seen causes.now) }
+/// Those of this refusal.
+fn refusal_lent<'l>(alloc: Global, told: &'l RefusedTold<'_>) -> Result<Vec<Cause<'l>>, AllocError>
+    ensures { IfOk result (λ lent. map cause_told lent.items ≡ causes_of_refusal told.now) }
+{
+    let line = ask_line(told.shown.as_ref());
+    each_lent(alloc, CauseOf::Refused { line }, &told.causes)
+}
+
+/// The line of the ask, if the recovery is shown.
+fn ask_line(shown: Option<&RefusedShown<'_>>) -> Option<u64>
+    ensures { result ≡ ask_line (option_copied shown.entry) }
+{
+    Some(shown?.ask.line)
+}
+
+/// Each of these causes, which are of this.
+fn each_lent<'l>(
+    alloc: Global,
+    of: CauseOf,
+    causes: &'l [CauseFound],
+) -> Result<Vec<Cause<'l>>, AllocError>
+    ensures { IfOk result (λ lent. map cause_told lent.items ≡ map (cause_of of) causes.now) }
 {
     let mut lent = Vec::new(alloc);
     for cause in causes {
-        lent.push(cause_lent(cause))?;
+        lent.push(cause_lent(of, cause))?;
     }
     Ok(lent)
 }
 
-fn cause_lent<'l>(cause: &'l CauseFound) -> Cause<'l>
-    ensures { cause_told result ≡ cause_seen cause.now }
+fn cause_lent<'l>(of: CauseOf, cause: &'l CauseFound) -> Cause<'l>
+    ensures { cause_told result ≡ cause_of of cause.now }
 {
     Cause {
         id: cause.id,
-        sure: cause.sure,
+        of,
+        state: cause.state,
         lines: cause.lines.as_slice(),
         why: cause.why.as_str(),
         todo: cause.todo,

@@ -15,6 +15,7 @@
 //! ```
 #![tactic(auto)]
 
+mod alike;
 mod asked;
 mod chosen;
 mod events;

@@ -4,6 +4,7 @@ ghost use Rattle.aud_node.specs.Cluster.{cluster_of};
 ghost use Rattle.aud_node.specs.Names.{AreNamedOnce};
 ghost use Rattle.aud_maker.specs.Sessions.{sessions_of};
 ghost use Rattle.aud_verdict.specs.Verdicts.{AreVerdicts};
+ghost use Rattle.aud_explain_app.specs.Alike.{tellings};
 ghost use Rattle.aud_explain_app.specs.Asked.{AreAsked};
 ghost use Rattle.aud_explain_app.specs.Output.{AreFigures, IsExplaining, form_of, summary_in, timed};
 ghost use Rattle.aud_explain_app.specs.Chosen.{sessions_chosen};
@@ -12,6 +13,7 @@ ghost use Rattle.aud_explain_app.specs.Strangers.{pids_of};
 ghost use Rattle.aud_explain_app.specs.Texts.{AddTexts};
 ghost use Rattle.aud_explain_app.specs.declared.fault.Unexplained.TheVariants.{NoSession};
 
+use crate::alike::tellings;
 use crate::asked::Asked;
 use crate::chosen::chosen;
 use crate::fault::Unexplained;
@@ -229,7 +231,7 @@ fn timed(summary: Summary, seconds: u64) -> Summary
     }
 }
 
-/// The explanations of those of the sessions that are shown.
+/// The explanations of those of the sessions that are shown, of those with the same fault at the same record once.
 fn told<H: Threads + Sync>(
     rt: &H,
     alloc: Global,
@@ -243,7 +245,8 @@ fn told<H: Threads + Sync>(
     requires { AreAsked sheet.recording.now asked.now }
     ensures told { IfOk result (λ text. AddTexts sheet.entry.recording.now sheet.entry.lines.now
         (form_of options.now.form) files.now
-        (sessions_chosen sheet.entry.recording.now options.now.only options.now.pids sessions.now)
+        (tellings sheet.entry.recording.now options.now.pids (sessions_chosen
+        sheet.entry.recording.now options.now.only options.now.pids sessions.now))
         [] (string_bytes text)) }
     ensures none_missing { OnOk result (first_missing (pids_of sessions.now) options.now.pids
         ≡ None) }
@@ -252,6 +255,15 @@ fn told<H: Threads + Sync>(
 {
     let shown = chosen(alloc, keys, options, asked, sessions)?;
     let prepared = prepared_for(alloc, sheet.recording, asked, &shown)?;
+    let told = tellings(
+        sheet.recording,
+        alloc,
+        keys,
+        &prepared,
+        asked,
+        options.pids.as_slice(),
+        &shown,
+    )?;
     let threads = options.workers as usize;
     let layout = Layout {
         form: form_of(options),
@@ -259,7 +271,7 @@ fn told<H: Threads + Sync>(
     };
     let mut out = String::new(alloc);
     push_sessions(
-        rt, alloc, threads, &mut out, layout, sheet, &prepared, asked, &shown,
+        rt, alloc, threads, &mut out, layout, sheet, &prepared, asked, &told,
     )?;
     Ok(out)
 }

@@ -5,7 +5,7 @@ pub(crate) const HEAD: &str = r#"<!doctype html>
 <html lang="en">
 <head>
 <meta charset="utf-8">
-<meta http-equiv="Content-Security-Policy" content="default-src 'none'; script-src 'sha256-5s2KRCTIK0uWhnKmEZI/bnPEbd0rTrsVmPr3nb5J6wY='; style-src 'sha256-gMYhEyB3PDSfbNwcTAUqBJQ8LE/pS1oHd+iOxOIDqCg='; base-uri 'none'; form-action 'none'; require-trusted-types-for 'script'; trusted-types 'none'">
+<meta http-equiv="Content-Security-Policy" content="default-src 'none'; script-src 'sha256-d2K9xJ6IpxqaKs1QqI32pQN1oYRJwz8lg7oh6/S5twU='; style-src 'sha256-gMYhEyB3PDSfbNwcTAUqBJQ8LE/pS1oHd+iOxOIDqCg='; base-uri 'none'; form-action 'none'; require-trusted-types-for 'script'; trusted-types 'none'">
 <meta name="viewport" content="width=device-width, initial-scale=1">
 <title>sioaudit report</title>
 <style>
@@ -181,7 +181,7 @@ const ROLES = /** @type {Record<string, string>} */ ({
   fault: "here it shows", entry: "the entry", reached: "reached here", room: "decides", left: "left after that", break: "", back: "", ask: "",
   reply: "", "fault LOST": "passes it over", "fault DOUBLED": "again", "fault SWAPPED": "too early", "fault EXTRA": "was not due",
   "fault CONTENT": "isn't the entry", "fault CHAIN": "does not fit in the turns", "fault ORPHAN": "of no known session",
-  "fault TAIL": "the last received",
+  "fault TAIL": "the last received", "also LOST": "was due and did not come", "also SWAPPED": "too late",
 });
 
 /** @param {string | null} fault */
@@ -222,6 +222,9 @@ const byId = id => /** @type {HTMLElement} */ (document.getElementById(id));
  */
 const visible = text => text.replace(/[\p{Cc}\p{Cf}\u2028\u2029]/gu, it => `\\u{${it.codePointAt(0)?.toString(16)}}`);
 
+/** How many sessions these explanations are of. @param {{ alike: string[] }[]} all */
+const sizeOf = all => all.reduce((sum, it) => sum + 1 + it.alike.length, 0);
+
 /** @param {string | null} text */
 const code = text => text === null ? null : h("code", {}, visible(text));
 
@@ -240,8 +243,15 @@ const inLines = lines => lines.length ? `${lines.length === 1 ? "line" : "lines"
 /** @param {string} pid */
 const linkTo = pid => `#${encodeURIComponent(pid)}`;
 
-/** @template T @param {T[]} all @param {number} most @param {(it: T) => Child} view */
-const firstOf = (all, most, view) => [...all.slice(0, most).map(view), all.length > most ? `and ${grouped(all.length - most)} more` : null];
+/** Of a long list those before and after what is left out. */
+const FIRST = 100;
+
+/** @template T @param {T[]} shown @param {number} left @param {(it: T) => Child} view */
+const listed = (shown, left, view) =>
+  [...shown.slice(0, FIRST).map(view), left > 0 ? h("li", {}, `.. ${grouped(left)} more ..`) : null, ...shown.slice(FIRST).map(view)];
+
+/** @param {{from: number | null, to: number | null}[]} runs How many frames these are. */
+const framesOf = runs => runs.reduce((sum, { from, to }) => sum + (to ?? 0) - (from ?? 1) + 1, 0);
 
 // ---- Reading a report
 
@@ -253,14 +263,15 @@ const TEXT = maybe("");
 const COUNT = maybe(0);
 
 /** The forms of what docs/EXPLAIN.md describes, by example: a list has one for all its items, a span two. */
-const ROW = { file: TEXT, file_line: COUNT, line: 0, role: "", says: "", tap: "" };
+const ROW = { file: TEXT, file_line: COUNT, line: 0, of: TEXT, role: "", says: "", tap: "" };
 const SESSION = {
   pid: "", verdict: "", fault: TEXT, class: TEXT, off: TEXT, client: TEXT, nsp: TEXT, conn: COUNT, got: COUNT, due: COUNT,
   tail: COUNT, at_frame: COUNT,
-  evidence: [ROW], also: [{ lines: [0], position: 0 }], causes: [{ id: "", lines: [0], sure: false, todo: "", why: "" }],
-  events: [{ happens: "", lines: [0, 0], after: COUNT, from: COUNT, to: COUNT }],
-  refused: [{ ask: ROW, reply: maybe(ROW), instead: TEXT, missed: maybe([{ off: "", position: 0 }]) }],
-  turns: [{ turn: 0, node: "", begin: "", end: "", low: 0, high: COUNT, lines: [0], took: maybe([0, 0]) }],
+  evidence: [ROW], also: [{ lines: [0], position: 0, to: 0 }], also_left: 0, alike: [""], causes: [{ id: "", lines: [0], of: "", of_line: COUNT, state: "", sure: false, todo: "", why: "" }],
+  refuted: [""],
+  events: [{ happens: "", lines: [0, 0], after: COUNT, from: COUNT, to: COUNT }], events_left: 0,
+  refused: [{ ask: ROW, reply: maybe(ROW), instead: TEXT, missed: maybe([{ off: "", position: 0 }]), missed_left: COUNT }],
+  turns: [{ turn: 0, node: "", begin: "", end: "", low: 0, high: COUNT, lines: [0], took: maybe([0, 0]) }], turns_left: 0,
 };
 const SUMMARY = {
   sessions: 0, yes: 0, no: 0, unobserved: 0, lines: 0, bytes: 0, seconds: 0, tail: { events: 0, sessions: 0 },
@@ -305,6 +316,7 @@ function parsedLine(line, number) {
   if (value.v !== VERSION) {
     throw new Refusal(`Line ${number} is of version ${visible(JSON.stringify(value.v))}; this page reads version ${VERSION}.`);
   }
+  value.alike ??= [];
   const isRefused = "refused" in value && !("pid" in value);
   const [form, inner] = "summary" in value ? [SUMMARY, value.summary] : isRefused ? [REFUSED, value.refused] : [SESSION, value];
   const wrong = misfit(inner, form, "");
@@ -416,6 +428,7 @@ function summaryCard(summary, choose) {
 const MOST_ENTRIES = 64;
 const WHOLE_ENTRIES = 26;
 const MOST_ROWS = 14;
+const MOST_SIGNS = 100;
 const LANE = 36;
 const STEP = 22;
 const GOT = /^conn \d+ got /;
@@ -445,6 +458,9 @@ function placeOf({ says }) {
  */
 const fileOf = ({ file, file_line }) => (file === null ? "" : visible(`${file}:${file_line}`));
 
+/** @param {Row} row */
+const saysOf = ({ says, of }) => (of === null ? says : `${says} of ${of}`);
+
 /** @param {Session} session @param {Row} row */
 const roleOf = ({ fault }, { role }) => ROLES[`${role} ${fault}`] ?? ROLES[role] ?? role;
 
@@ -452,7 +468,7 @@ const roleOf = ({ fault }, { role }) => ROLES[`${role} ${fault}`] ?? ROLES[role]
 function recordMark(session, row, at, shape) {
   const [role, file] = [roleOf(session, row), fileOf(row)];
   const look = row.role === "fault" ? { shape: "sign", look: faultOf(session.fault).look } : { shape };
-  const label = `${visible(row.says)}${role && ` \u2014 ${role}`}${file && ` (${file})`}`;
+  const label = `${visible(saysOf(row))}${role && ` \u2014 ${role}`}${file && ` (${file})`}`;
   return mark({ at, label, line: row.line, tap: row.tap, weight: 3, ...look });
 }
 
@@ -467,8 +483,9 @@ function nodeLanes(session, rows) {
   const ends = new Map(rows.filter(it => /^(open|back|break|gone)\b/.test(it.says)).map(it => [`${it.tap} ${it.line}`, it]));
   const left = new Set(rows);
   let reached = 0;
-  for (const it of session.turns) {
+  for (const [index, it] of session.turns.entries()) {
     const { turn, node, begin, end, low, high, lines } = it;
+    if (index === FIRST && session.turns_left > 0) reached = low;
     const { bars, marks } = of(node);
     const last = high === null ? null : lines[lines.length - 1];
     const both = /** @type {[number | null, Place, string, string][]} */ ([
@@ -523,6 +540,22 @@ const eventWords = ({ happens, after, from, to }) =>
     reply: "reply: this session", refused: "refused: another session, or none", lost: "the connection is lost",
   })[happens] ?? happens;
 
+/** @param {Session} session The first frame after the events that are left out; below 1 where it isn't known. */
+const frameAfter = ({ got, events }) => (got === null ? -Infinity : got + 1 - framesOf(events.slice(FIRST)));
+
+/**
+ * The row of the events that are left out, up to where the next one goes on. Its run isn't drawn.
+ * @param {Session} session
+ */
+function gapLane(session) {
+  const { client, events, events_left } = session;
+  const next = events.slice(FIRST).find(it => it.from !== null || it.after !== null);
+  const to = next?.from ? next.from - 1 : next?.after ?? 0;
+  const lines = [events[FIRST - 1].lines[1] + 1, events[FIRST].lines[0] - 1];
+  const runs = [{ from: 1, to, lines, frame: frameAfter(session) - to }];
+  return { ...lane(client ?? "", "gap", `${counted(events_left, "event")} left out`), lines, runs };
+}
+
 /**
  * The rows of the client: one begins with a connection, and where a frame goes back in the stream.
  * @param {Session} session @param {Row[]} rows The evidence of clients' taps.
@@ -533,8 +566,12 @@ function clientLanes(session, rows) {
   /** @type {Lane[]} */
   const lanes = [];
   let [isOpen, isReplied, last, cursor, frame] = [false, false, 0, (session.turns[0]?.low ?? 0) + 0.5, 1];
-  for (const event of session.events) {
+  for (const [index, event] of session.events.entries()) {
     const { happens, lines, from, to, after } = event;
+    if (index === FIRST && session.events_left > 0) {
+      lanes.push(gapLane(session));
+      [isOpen, cursor, frame] = [false, lanes[lanes.length - 1].runs[0].to + 0.5, frameAfter(session)];
+    }
     const isBack = from !== null && from <= last;
     const isNew = !isOpen || happens === "asks" || (happens === "reply" && isReplied);
     if (isNew || isBack) {
@@ -560,7 +597,7 @@ function clientLanes(session, rows) {
     const found = lanes.find(it => it.kind === "client" && tap === row.tap && isIn(row.line, it.lines));
     if (found) found.name = `${tap}, ${/^conn \d+/.exec(row.says)?.[0]}`;
   }
-  for (const it of lanes) it.note = `line ${spanned(it.lines)}`;
+  for (const it of lanes) it.note ||= `line ${spanned(it.lines)}`;
   return lanes;
 }
 
@@ -574,7 +611,7 @@ function placeEvidence(session, row, lanes) {
   const at = placeOf(row) ?? (ofTap.flatMap(it => it.runs).filter(it => it.lines[1] <= row.line).at(-1)?.to ?? 0) + 0.5;
   const has = (/** @type {Run} */ { from, to, lines }) => isIn(at, [from, to]) && isIn(row.line, lines);
   const holding = ofTap.filter(it =>
-    it.kind === "other" || (isGot ? it.runs.some(has) : session.fault !== "ORPHAN" && it.lines[0] <= row.line));
+    it.kind === "other" || (it.kind === "gap" ? isIn(row.line, it.lines) : isGot ? it.runs.some(has) : session.fault !== "ORPHAN" && it.lines[0] <= row.line));
   const target = (row.role === "earlier" ? holding[0] : holding.at(-1)) ?? lane(row.tap, "other");
   if (!lanes.includes(target)) lanes.push(target);
   target.lines = [target.lines[0] ?? row.line, Math.max(row.line, target.lines[1] ?? 0)];
@@ -592,36 +629,54 @@ function placeEvidence(session, row, lanes) {
 function dueLane(session, came, entry) {
   const due = lane("due", "due");
   const before = session.at_frame ?? Infinity;
-  for (const run of came.flatMap(it => it.runs)) {
+  for (const run of came.filter(it => it.kind !== "gap").flatMap(it => it.runs)) {
     const to = Math.min(run.to, run.from + before - 1 - run.frame);
     if (to >= run.from) due.runs.push({ ...run, to });
   }
   const { fault, also, evidence } = session;
-  const positions = also.map(it => it.position);
   const shown = evidence.filter(it => it.role === "fault").map(placeOf);
-  for (const at of ["LOST", "DOUBLED", "SWAPPED", "TAIL"].includes(fault ?? "") ? [entry, ...positions, ...shown] : []) {
-    if (at && !due.runs.some(it => isIn(at, [it.from, it.to]))) due.runs.push({ from: at, to: at, lines: [], frame: 0 });
+  const single = [entry, ...shown].filter(at => at !== null).map(at => ({ position: at, to: at, lines: [] }));
+  for (const it of ["LOST", "DOUBLED", "SWAPPED", "TAIL"].includes(fault ?? "") ? [...single, ...also] : []) {
+    for (const [from, to] of outside(due.runs, [it.position, it.to])) due.runs.push({ from, to, lines: [], frame: 0 });
   }
-  const known = due.runs.reduce((sum, it) => sum + it.to - it.from + 1, 0);
+  const known = framesOf(due.runs);
   if (known < (session.due ?? 0)) due.note = `${known} of ${session.due} told`;
-  markWrong(session, came, fault === "LOST" && entry ? [{ position: entry, lines: [] }, ...also] : also);
+  markWrong(session, came, fault === "LOST" && entry ? [{ position: entry, to: entry, lines: [] }, ...also] : also);
   return due;
 }
 
 /**
- * Marks entries with the fault where they came, or were passed over.
- * @param {Session} session @param {Lane[]} came @param {{position: number, lines: number[]}[]} wrong
+ * The parts of a span that none of the runs has.
+ * @param {Run[]} runs @param {number[]} span
+ */
+function outside(runs, span) {
+  let parts = [span];
+  for (const { from, to } of runs) {
+    parts = parts.flatMap(part => (to < part[0] || part[1] < from ? [part] : [[part[0], from - 1], [to + 1, part[1]]]));
+  }
+  return parts.filter(([from, to]) => from <= to);
+}
+
+/**
+ * Marks entries with the fault where they came, or were passed over: of ranges with very many entries the first and the last.
+ * @param {Session} session @param {Lane[]} came @param {Session["also"]} wrong
  */
 function markWrong({ fault, at_frame, client }, came, wrong) {
   const isLost = fault === "LOST";
-  for (const { position: at, lines } of wrong) {
-    const shows = (/** @type {Run} */ { from, to, frame }) => {
-      const isHere = isLost ? to > at : isIn(at, [from, to]);
-      return isHere && frame + (isLost ? to : at) - from >= (at_frame ?? 0);
-    };
-    const row = came.find(it => it.runs.some(shows));
-    const label = `entry ${at} ${isLost ? "was due and did not come" : ROLES[`fault ${fault}`]} ${inLines(lines)}`;
-    row?.marks.push(mark({ at, shape: "sign", look: faultOf(fault).look, label, line: lines.at(-1) ?? null, tap: client ?? "", weight: 3 }));
+  const says = ROLES[`also ${fault}`] ?? ROLES[`fault ${fault}`];
+  const areFew = wrong.reduce((sum, it) => sum + it.to - it.position + 1, 0) <= MOST_SIGNS;
+  for (const { position, to: last, lines } of wrong) {
+    const range = last > position ? `, one of ${spanned([position, last])}` : "";
+    for (let at = position; at <= last; at = areFew || at === last ? at + 1 : last) {
+      const shows = (/** @type {Run} */ { from, to, frame }) => {
+        const isHere = isLost ? to > at : isIn(at, [from, to]);
+        return isHere && frame + (isLost ? to : at) - from >= (at_frame ?? 0);
+      };
+      const row = came.find(it => it.runs.some(shows));
+      const label = `entry ${at}${range} ${says} ${inLines(lines)}`;
+      const line = (at === last ? lines.at(-1) : at === position ? lines[0] : null) ?? null;
+      row?.marks.push(mark({ at, shape: "sign", look: faultOf(fault).look, label, line, tap: client ?? "", weight: 3 }));
+    }
   }
 }
 
@@ -630,9 +685,9 @@ function markWrong({ fault, at_frame, client }, came, wrong) {
  * @param {Lane[]} rows
  */
 function foldedRows(rows) {
-  const kept = rows.filter((it, index) => index < 2 || index > rows.length - 3 || it.marks.some(mark => mark.weight === 3));
+  const kept = rows.filter((it, index) => index < 2 || index > rows.length - 3 || it.kind === "gap" || it.marks.some(mark => mark.weight === 3));
   const left = rows.filter(it => !kept.includes(it));
-  const frames = left.flatMap(it => it.runs).reduce((sum, it) => sum + it.to - it.from + 1, 0);
+  const frames = framesOf(left.flatMap(it => it.runs));
   if (rows.length <= Math.max(MOST_ROWS, kept.length)) return rows;
   return [...kept, lane(`${left.length} rows more`, "fold", counted(frames, "frame"))];
 }
@@ -650,8 +705,8 @@ function lanesOf(session) {
   const asked = refused.flatMap(it => (it.reply ? [it.ask, it.reply] : [it.ask])).filter(it => it.tap === client && !seen.has(it.line));
   const came = clientLanes(session, [...evidence.filter(it => /^conn /.test(it.says)), ...asked]);
   const due = session.due === null ? [] : [dueLane(session, came, focus)];
-  const missed = refused.filter(it => it.missed?.length).map(({ ask, missed }) => ({
-    ...lane("missed", "missed", `refused, line ${ask.line}`),
+  const missed = refused.filter(it => it.missed?.length).map(({ ask, missed, missed_left }) => ({
+    ...lane("missed", "missed", `refused, line ${ask.line}${missed_left ? `; ${grouped(missed_left)} left out` : ""}`),
     marks: (missed ?? []).map(({ off, position: at }) => {
       const label = `entry ${at} ${visible(off)} was missed: the recovery was refused`;
       return mark({ at, shape: "sign", look: "lost", label, tap: ask.tap, weight: 3 });
@@ -718,7 +773,7 @@ function groupsOf(row, slots, tap) {
     return { slot, found };
   };
   for (const it of row.marks) group(it.at).found.marks.push(it);
-  for (const { from, to, lines, frame } of row.runs) {
+  for (const { from, to, lines, frame } of row.kind === "gap" ? [] : row.runs) {
     for (let at = from; at <= to; at += 1) {
       const { slot, found } = group(at);
       if (slot.isFold) {
@@ -728,7 +783,7 @@ function groupsOf(row, slots, tap) {
       } else if (row.kind === "due") found.marks.push(mark({ at, shape: "due", label: `entry ${at} was due`, tap: "session" }));
       else if (found.marks.length === 0) {
         const line = at === from ? lines[0] : at === to ? lines[1] : null;
-        const label = `frame ${frame + at - from}: got entry ${at}${line === null ? `, on lines ${spanned(lines)}` : ""}`;
+        const label = `${frame > 0 ? `frame ${frame + at - from}: ` : ""}got entry ${at}${line === null ? `, on lines ${spanned(lines)}` : ""}`;
         found.marks.push(mark({ at, shape: "came", look: "came", label, line, tap }));
       }
     }
@@ -911,47 +966,58 @@ function rowsTable(session, rows, name, choose) {
   return h("div", { class: "wide" }, h("table", { "aria-label": name },
     h("thead", {}, h("tr", {}, ...["line", "tap", "record", "shown for", ...(ofFiles ? ["file"] : [])].map(it => h("th", {}, it)))),
     h("tbody", {}, ...rows.map(row => h("tr", { "data-line": row.line, click: () => choose(row.line) },
-      h("td", { class: "number" }, String(row.line)), h("td", {}, code(row.tap)), h("td", {}, code(row.says)),
+      h("td", { class: "number" }, String(row.line)), h("td", {}, code(row.tap)), h("td", {}, code(saysOf(row))),
       h("td", {}, row.role === "fault" ? h("b", {}, `\u2190 ${roleOf(session, row)}`) : roleOf(session, row)),
       ofFiles ? h("td", {}, h("code", { class: "path" }, ...fileOf(row).split(/(?<=\/)/).flatMap(it => [it, h("wbr")]))) : null)))));
 }
 
 /** @param {Session} session */
-function accountOf({ client, nsp, conn, turns, got, due, tail, at_frame }) {
+function accountOf({ client, nsp, conn, turns, turns_left, got, due, tail, at_frame }) {
   const told = {
-    client: client ?? "not one alone", namespace: nsp, connection: conn, turns: turns.length, got, due: due ?? "not judged", tail,
+    client: client ?? "not one alone", namespace: nsp, connection: conn, turns: turns.length + turns_left, got, due: due ?? "not judged", tail,
     "differs at frame": at_frame,
   };
   return Object.entries(told).flatMap(([name, it]) => (it === null ? [] : `${name} ${visible(String(it))}`)).join(", ");
 }
 
+const STATES = /** @type {Record<string, string>} */ ({
+  certain: "Of the known causes the records leave no other.", holds: "Others hold too, and can be true beside it.",
+  fits: "The records don't decide between those that fit.",
+});
+
 /** @param {Session["causes"][number]} cause */
-const causeView = ({ id, lines, sure, todo, why }) => h("div", { class: sure ? "cause sure" : "cause" }, h("b", {}, code(id)),
-  h("span", { class: "tag", title: sure ? "Of the known causes the records leave no other." : "The records don't decide between those that fit." },
-    sure ? "certain" : "fits"),
-  h("span", { class: "soft" }, inLines(lines)), h("p", {}, visible(why)), h("p", {}, h("b", {}, "Do: "), visible(todo)));
+const causeView = ({ id, lines, of, of_line, state, sure, todo, why }) => h("div", { class: sure ? "cause sure" : "cause" }, h("b", {}, code(id)),
+  h("span", { class: "tag", title: STATES[state] ?? "" }, visible(state)),
+  h("span", { class: "soft" }, [inLines(lines), of === "refused" ? `of the ask${of_line === null ? "" : ` on line ${of_line}`}` : ""].filter(Boolean).join(", ")),
+  h("p", {}, visible(why)), h("p", {}, h("b", {}, "Do: "), visible(todo)));
+
+/** @param {Session} session */
+const refutedView = ({ refuted, causes }) => refuted.length === 0 ? null : h("details", {},
+  h("summary", {}, causes.some(it => it.of === "fault") ? "" : "No known cause of the fault holds: ", counted(refuted.length, "was", "were"), " refuted"),
+  h("ul", {}, ...refuted.map(it => h("li", {}, code(it)))));
 
 /** @param {Session} session @param {Session["refused"][number]} refused @param {(line: number) => void} choose */
-const refusedView = (session, { ask, reply, instead, missed }, choose) => h("div", {},
+const refusedView = (session, { ask, reply, instead, missed, missed_left }, choose) => h("div", {},
   h("p", {}, `The client got ${instead === null ? "no session" : "session "}`, code(instead),
-    `; missed: ${missed === null ? "not known" : counted(missed.length, "event")}.`),
-  h("ul", {}, ...firstOf(missed ?? [], 100, ({ off, position }) => h("li", {}, `entry ${position} `, code(off)))),
+    `; missed: ${missed === null ? "not known" : counted(missed.length + (missed_left ?? 0), "event")}.`),
+  h("ul", {}, ...listed(missed ?? [], missed_left ?? 0, ({ off, position }) => h("li", {}, `entry ${position} `, code(off)))),
   rowsTable(session, reply === null ? [ask] : [ask, reply], "The ask and its reply", choose));
 
 /** @param {Session} session */
-const wordsView = ({ turns, events }) => h("details", {}, h("summary", {}, "The turns and the client in words"), h("div", { class: "columns" },
-  h("ul", {}, ...firstOf(turns, 500, it => h("li", {}, turnWords(it)))),
-  h("ul", {}, ...firstOf(events, 500, it => h("li", {}, `lines ${spanned(it.lines)}: ${eventWords(it)}`)))));
+const wordsView = ({ turns, turns_left, events, events_left }) => h("details", {}, h("summary", {}, "The turns and the client in words"), h("div", { class: "columns" },
+  h("ul", {}, ...listed(turns, turns_left, it => h("li", {}, turnWords(it)))),
+  h("ul", {}, ...listed(events, events_left, it => h("li", {}, `lines ${spanned(it.lines)}: ${eventWords(it)}`)))));
 
 /** @param {Session} session @param {number} room */
 function sessionView(session, room) {
-  const { pid, fault, off, evidence, also, refused, causes, tail } = session;
+  const { pid, fault, off, evidence, also, also_left: left, alike, refused, causes, tail } = session;
   const view = h("section", { class: "session" });
   const onLine = (/** @type {number | null} */ line) => {
     for (const it of view.querySelectorAll("tr[data-line]")) it.setAttribute("aria-current", String(it.getAttribute("data-line") === `${line}`));
   };
   const onRow = (/** @type {number} */ line) => /** @type {SVGElement | null} */ (view.querySelector(`.mark[data-line="${line}"]`))?.focus();
-  const others = also.map(it => `entry ${it.position} (${inLines(it.lines)})`);
+  const others = also.map(it => `${it.to > it.position ? "entries" : "entry"} ${spanned([it.position, it.to])} (${inLines(it.lines)})`);
+  const more = left > 0 ? ` and ${counted(left, "entry", "entries")} more` : "";
   view.append(h("h2", {}, sign(nameOf(session)), visible(nameOf(session)), h("a", { href: linkTo(pid) }, code(pid)), code(off)),
     h("p", {}, fault === null
       ? `What came is what was due${tail ? ", up to the last event that came" : ""}${refused.length > 0 ? "; a recovery was refused" : ""}.`
@@ -959,10 +1025,11 @@ function sessionView(session, room) {
     h("p", { class: "soft" }, accountOf(session)), pictureOf(session, room, onLine),
     h("div", { class: "columns" },
       fault === null ? null : h("div", {}, h("h3", {}, "Evidence"), rowsTable(session, evidence, "Evidence", onRow),
-        others.length > 0 ? h("p", {}, `Also ${others.join(", ")}.`) : null),
+        others.length > 0 ? h("p", {}, `Also ${others.join(", ")}${more}.`) : null,
+        alike.length > 0 ? h("p",{},`The same of ${counted(alike.length, "more session")}: `, ...alike.slice(0, 100).map(it => h("span",{},code(it), " "))) : null),
       refused.length === 0 ? null : h("div", {}, h("h3", {}, "Refused recoveries"), ...refused.map(it => refusedView(session, it, onRow))),
-      fault === null && refused.length === 0 ? null : h("div", {}, h("h3", {}, "Causes"), ...causes.map(causeView),
-        causes.length === 0 ? "No known cause fits these records." : null)),
+      fault === null && refused.length === 0 ? null : h("div", {}, h("h3", {}, "Causes"), ...causes.map(causeView), refutedView(session),
+        causes.length + session.refuted.length === 0 ? "No causes are known." : null)),
     wordsView(session));
   return view;
 }
@@ -995,9 +1062,9 @@ const FILTERS = /** @type {[string, (session: Session) => (string | null)[]][]} 
 ]);
 
 /** @param {Session} session */
-const wordsOf = session => [session.pid, session.off, session.client, session.nsp, session.fault, session.class, ...nodesOf(session),
+const wordsOf = session => [session.pid, ...session.alike, session.off, session.client, session.nsp, session.fault, session.class, ...nodesOf(session),
   ...session.causes.flatMap(it => [it.id, it.why]),
-  ...session.evidence.map(it => it.says), ...session.refused.flatMap(it => [it.instead, it.ask.says])].join("\n").toLowerCase();
+  ...session.evidence.map(saysOf), ...session.refused.flatMap(it => [it.instead, it.ask.says])].join("\n").toLowerCase();
 
 /** The list of the sessions, drawn a block at a time. */
 class SessionList {
@@ -1031,7 +1098,10 @@ class SessionList {
   selectOf(name, values) {
     /** @type {Map<string, number>} */
     const counts = new Map();
-    for (const value of this.sessions.flatMap(values)) if (value !== null) counts.set(value, (counts.get(value) ?? 0) + 1);
+    const isShared = name === "fault" || name === "class";
+    for (const it of this.sessions) {
+      for (const value of values(it)) if (value !== null) counts.set(value, (counts.get(value) ?? 0) + (isShared ? sizeOf([it]) : 1));
+    }
     const options = [...counts].sort(([a], [b]) => (a < b ? -1 : 1)).map(([value, count]) =>
       h("option", { value }, `${visible(value)} (${grouped(count)})`));
     return h("select", { id: `by-${name}`, change: () => this.update() }, h("option", { value: "" }, "all"), ...options);
@@ -1069,9 +1139,10 @@ class SessionList {
       const value = asked[it.getAttribute("data-by") === "fault" ? 0 : 1];
       it.setAttribute("aria-pressed", String(value === it.getAttribute("data-value")));
     }
-    this.status.textContent = this.sessions.length === 0
+    const [found, all, size] = [this.found.length, this.sessions.length, sizeOf(this.sessions)];
+    this.status.textContent = all === 0
       ? "Nothing is to be explained."
-      : `${grouped(this.found.length)} of ${counted(this.sessions.length, "session")}.`;
+      : `${grouped(found)} of ${size === all ? counted(all, "session") : `${counted(all, "explanation")} of ${grouped(size)} sessions`}.`;
     this.rows.clear();
     this.body.replaceChildren();
     this.draw();
@@ -1086,10 +1157,11 @@ class SessionList {
 
   /** @param {Session} session */
   rowOf(session) {
-    const { pid, client, got, due } = session;
+    const { pid, alike, client, got, due } = session;
     const name = nameOf(session);
     const cells = [
-      h("b", {}, sign(name), visible(name)), h("a", { href: linkTo(pid) }, code(pid)), code(client),
+      h("b", {}, sign(name), visible(name)),
+      h("span", {}, h("a", { href: linkTo(pid) }, code(pid)), alike.length > 0 ? ` and ${grouped(alike.length)} more` : null), code(client),
       nodesOf(session).slice(0, 8).map(visible).join(", "),
       due === null || got === null ? "\u2013" : `${grouped(got)} / ${grouped(due)}`, causesOf(session).map(visible).join(", "),
     ];
@@ -1134,7 +1206,7 @@ class SessionList {
    * @param {string} link
    */
   show(link) {
-    const session = this.sessions.find(it => linkTo(it.pid) === link);
+    const session = this.sessions.find(it => [it.pid, ...it.alike].some(pid => linkTo(pid) === link));
     if (!session) return;
     if (!this.rows.has(session)) {
       for (const it of this.selects) it.value = "";

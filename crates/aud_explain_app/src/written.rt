@@ -1,11 +1,12 @@
 //! The explanation of a session, written.
-ghost use Rattle.std.specs.Prelude.{◌≡◌, ◌++◌, IfOk, codes, string_bytes};
+ghost use Rattle.std.specs.Prelude.{◌≡◌, ◌++◌, IfOk, codes, map, string_bytes};
 ghost use Rattle.aud_explanation.specs.Json.{explanation_json};
 ghost use Rattle.aud_explanation.specs.Text.{explanation_text};
 ghost use Rattle.aud_explain_app.specs.Written.{IsWritten, form_text};
 
 use crate::explained::Explained;
 use crate::lent::{also_lent, causes_lent, refused_lent};
+use aud_causes::refuted;
 use aud_explanation::{Explanation, explanation_json, push_text};
 use aud_input::InputFile;
 use aud_verdict::Verdict;
@@ -72,18 +73,20 @@ fn text_of(
     }
 }
 
-/// What is told of the session with this pid, on which this is the verdict.
-pub fn written(
+/// What is told of the session with this pid, on which this is the verdict, and the pids of those that it names.
+pub fn written<'s>(
     alloc: Global,
     layout: Layout<'_>,
-    pid: &str,
-    verdict: &Verdict,
-    explained: &Explained<'_>,
+    pid: &'s str,
+    verdict: &'s Verdict,
+    alike: &'s [&'s str],
+    explained: &'s Explained<'s>,
 ) -> Result<String, AllocError>
     ensures { IfOk result (λ text. IsWritten layout.entry.form layout.entry.files.now pid.now
-        verdict.now explained.now (string_bytes text)) }
+        verdict.now (map (λ other. other.now) alike.now) explained.now (string_bytes text)) }
 {
-    let also = also_lent(alloc, explained.outcome.also.as_slice())?;
+    let ids = refuted(alloc, verdict, explained.causes.as_slice())?;
+    let also = also_lent(alloc, explained.outcome.also.ranges.as_slice())?;
     let refused = refused_lent(alloc, explained.refused.as_slice())?;
     let causes = causes_lent(
         alloc,
@@ -98,9 +101,12 @@ pub fn written(
         turns: explained.turns.as_slice(),
         evidence: explained.outcome.evidence.as_slice(),
         also: also.as_slice(),
+        also_left: explained.outcome.also.left,
+        alike,
         refused: refused.as_slice(),
         events: explained.events.as_slice(),
         causes: causes.as_slice(),
+        refuted: ids.as_slice(),
     };
     text_of(alloc, layout, &explanation)
 }

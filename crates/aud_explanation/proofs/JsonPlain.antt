@@ -1,5 +1,6 @@
 -- No explanation's JSON has a float.
 use Rattle.std.proofs.Common.{◌≡◌, ℕ, Bool, true, false, ◌||◌, List, [], ◌∷◌, Option, Some, None, refl, codes}
+use Rattle.std.specs.Borrow.{Bor}
 use Rattle.std.specs.Option.{option_and_then, option_copied}
 use Rattle.std.specs.Ordering.{nat_cmp, match_ordering}
 use Rattle.std.specs.Cmp.Lexicographic.{slice_cmp}
@@ -30,16 +31,18 @@ use Rattle.aud_explanation.specs.ExplainedClass.{class_of_explained}
 use Rattle.aud_explanation.specs.FaultEntry.{fault_off}
 use Rattle.aud_explanation.specs.ShownTail.{shown_tail}
 use Rattle.aud_explanation.specs.JsonValue.{text_or_null, number_or_null}
+use Rattle.aud_explanation.specs.Long.{all_shown, left_out}
 use Rattle.aud_explanation.specs.JsonVerdict.{verdict_word, fault_data, off_data, class_data, with_fault, with_verdict}
 use Rattle.aud_explanation.specs.JsonAccount.{with_names, with_client, with_counts, with_account}
 use Rattle.aud_explanation.specs.Place.{with_place}
-use Rattle.aud_explanation.specs.Record.{record_text}
+use Rattle.aud_explanation.specs.Record.{record_text, other_session}
 use Rattle.aud_explanation.specs.JsonRow.{role_word, with_row, row_data, with_evidence}
 use Rattle.aud_explanation.specs.JsonTurn.{high_at, lines_data, took_data, turn_data, with_turns}
 use Rattle.aud_explanation.specs.JsonAlso.{also_data, with_also}
-use Rattle.aud_explanation.specs.JsonCause.{cause_data, with_causes}
+use Rattle.aud_explanation.specs.JsonAlike.{pid_data, with_alike}
+use Rattle.aud_explanation.specs.JsonCause.{cause_data, id_data, of_line, with_causes}
 use Rattle.aud_explanation.specs.JsonEvent.{after_data, from_data, to_data, event_data, with_events}
-use Rattle.aud_explanation.specs.JsonRefused.{missed_data, all_missed_data, reply_data, refused_data, with_refused}
+use Rattle.aud_explanation.specs.JsonRefused.{missed_data, all_missed_data, missed_left_data, reply_data, refused_data, with_refused}
 use Rattle.aud_explanation.specs.Json.{explanation_data}
 use Rattle.aud_explanation.specs.WholeRecord.{whole_record_data}
 
@@ -138,14 +141,16 @@ unfolding with_place
 place-plain None = refl
 place-plain (Some place) = refl
 
-row-plain : (files : List InputFile) (row : Row) → has_float (row_data files row) ≡ false
+row-plain : (files : List InputFile) (pid : List ℕ) (row : Row) → has_float (row_data files pid row) ≡ false
 unfolding with_row
-row-plain files row =
+row-plain files pid row =
     let m1 : Members = with_place (place_told files row.line) no_members in
     let m2 : Members = put (codes "line") (whole row.line) m1 in
-    let m3 : Members = put (codes "role") (string (role_word row.role)) m2 in
-    let m4 : Members = put (codes "says") (string (record_text row.says)) m3 in
-    put-plain (codes "tap") (string row.tap.now) m4 (refl) (put-plain (codes "says") (string (record_text row.says)) m3 (refl) (put-plain (codes "role") (string (role_word row.role)) m2 (refl) (put-plain (codes "line") (whole row.line) m1 (refl) (place-plain (place_told files row.line)))))
+    let other : Option (List ℕ) = other_session pid row.session in
+    let m3 : Members = put (codes "of") (text_or_null other) m2 in
+    let m4 : Members = put (codes "role") (string (role_word row.role)) m3 in
+    let m5 : Members = put (codes "says") (string (record_text row.says)) m4 in
+    put-plain (codes "tap") (string row.tap.now) m5 (refl) (put-plain (codes "says") (string (record_text row.says)) m4 (refl) (put-plain (codes "role") (string (role_word row.role)) m3 (refl) (put-plain (codes "of") (text_or_null other) m2 (text-plain other) (put-plain (codes "line") (whole row.line) m1 (refl) (place-plain (place_told files row.line))))))
 
 lines-plain : (begin : ℕ) (end : TurnEnd) → has_float (lines_data begin end) ≡ false
 lines-plain begin (end.Break line high) = refl
@@ -164,7 +169,7 @@ also-plain : (also : Also) → has_float (also_data also) ≡ false
 also-plain also = rw (numbers-plain also.lines.now) refl
 
 cause-plain : (cause : Cause) → has_float (cause_data cause) ≡ false
-cause-plain cause = rw (numbers-plain cause.lines.now) refl
+cause-plain cause = rw (numbers-plain cause.lines.now, number-plain (of_line cause.of)) refl
 
 after-plain : (h : Happens) → has_float (after_data h) ≡ false
 after-plain (happens.Asks after) = number-plain after
@@ -192,40 +197,56 @@ event-plain event = rw (after-plain event.happens, from-plain event.happens, to-
 
 missed-plain : (m : Option (List Missed)) → has_float (all_missed_data m) ≡ false
 missed-plain None = refl
-missed-plain (Some entries) = items-plain missed_data (λ m. refl) entries
+missed-plain (Some entries) = items-plain missed_data (λ m. refl) (all_shown entries)
 
-reply-plain : (files : List InputFile) (reply : Option Row) → has_float (reply_data files reply) ≡ false
-reply-plain files None = refl
-reply-plain files (Some reply) = row-plain files reply
+left-plain : (m : Option (List Missed)) → has_float (missed_left_data m) ≡ false
+left-plain None = refl
+left-plain (Some entries) = refl
 
-refused-plain : (files : List InputFile) (r : RefusedRecovery) → has_float (refused_data files r) ≡ false
-refused-plain files r = rw (row-plain files r.ask, text-plain (option_copied r.instead), missed-plain (option_copied r.missed), reply-plain files r.reply) refl
+reply-plain : (files : List InputFile) (pid : List ℕ) (reply : Option Row) → has_float (reply_data files pid reply) ≡ false
+reply-plain files pid None = refl
+reply-plain files pid (Some reply) = row-plain files pid reply
+
+refused-plain : (files : List InputFile) (pid : List ℕ) (r : RefusedRecovery) → has_float (refused_data files pid r) ≡ false
+refused-plain files pid r = rw (row-plain files pid r.ask, text-plain (option_copied r.instead), missed-plain (option_copied r.missed), left-plain (option_copied r.missed), reply-plain files pid r.reply) refl
 
 -- ---- the members of the lists
 
 turns-plain : (turns : List TurnShown) (ms : Members) → members_have_float ms ≡ false → members_have_float (with_turns turns ms) ≡ false
 unfolding with_turns
-turns-plain turns ms rest = put-plain (codes "turns") (array (items turn_data turns)) ms (items-plain turn_data turn-plain turns) rest
+turns-plain turns ms rest =
+    let m1 : Members = put (codes "turns") (array (items turn_data (all_shown turns))) ms in
+    put-plain (codes "turns_left") (whole (left_out turns)) m1 refl (put-plain (codes "turns") (array (items turn_data (all_shown turns))) ms (items-plain turn_data turn-plain (all_shown turns)) rest)
 
-evidence-plain : (files : List InputFile) (rows : List Row) (ms : Members) → members_have_float ms ≡ false → members_have_float (with_evidence files rows ms) ≡ false
+evidence-plain : (files : List InputFile) (pid : List ℕ) (rows : List Row) (ms : Members) → members_have_float ms ≡ false → members_have_float (with_evidence files pid rows ms) ≡ false
 unfolding with_evidence
-evidence-plain files rows ms rest = put-plain (codes "evidence") (array (items (row_data files) rows)) ms (items-plain (row_data files) (row-plain files) rows) rest
+evidence-plain files pid rows ms rest = put-plain (codes "evidence") (array (items (row_data files pid) rows)) ms (items-plain (row_data files pid) (row-plain files pid) rows) rest
 
-others-plain : (others : List Also) (ms : Members) → members_have_float ms ≡ false → members_have_float (with_also others ms) ≡ false
+others-plain : (others : List Also) (left : ℕ) (ms : Members) → members_have_float ms ≡ false → members_have_float (with_also others left ms) ≡ false
 unfolding with_also
-others-plain others ms rest = put-plain (codes "also") (array (items also_data others)) ms (items-plain also_data also-plain others) rest
+others-plain others left ms rest =
+    let m1 : Members = put (codes "also") (array (items also_data others)) ms in
+    put-plain (codes "also_left") (whole left) m1 refl (put-plain (codes "also") (array (items also_data others)) ms (items-plain also_data also-plain others) rest)
 
-recoveries-plain : (files : List InputFile) (recoveries : List RefusedRecovery) (ms : Members) → members_have_float ms ≡ false → members_have_float (with_refused files recoveries ms) ≡ false
+recoveries-plain : (files : List InputFile) (pid : List ℕ) (recoveries : List RefusedRecovery) (ms : Members) → members_have_float ms ≡ false → members_have_float (with_refused files pid recoveries ms) ≡ false
 unfolding with_refused
-recoveries-plain files recoveries ms rest = put-plain (codes "refused") (array (items (refused_data files) recoveries)) ms (items-plain (refused_data files) (refused-plain files) recoveries) rest
+recoveries-plain files pid recoveries ms rest = put-plain (codes "refused") (array (items (refused_data files pid) recoveries)) ms (items-plain (refused_data files pid) (refused-plain files pid) recoveries) rest
 
 events-plain : (events : List ClientEvent) (ms : Members) → members_have_float ms ≡ false → members_have_float (with_events events ms) ≡ false
 unfolding with_events
-events-plain events ms rest = put-plain (codes "events") (array (items event_data events)) ms (items-plain event_data event-plain events) rest
+events-plain events ms rest =
+    let m1 : Members = put (codes "events") (array (items event_data (all_shown events))) ms in
+    put-plain (codes "events_left") (whole (left_out events)) m1 refl (put-plain (codes "events") (array (items event_data (all_shown events))) ms (items-plain event_data event-plain (all_shown events)) rest)
 
-causes-plain : (causes : List Cause) (ms : Members) → members_have_float ms ≡ false → members_have_float (with_causes causes ms) ≡ false
+causes-plain : (causes : List Cause) (refuted : List (Bor (List ℕ))) (ms : Members) → members_have_float ms ≡ false → members_have_float (with_causes causes refuted ms) ≡ false
 unfolding with_causes
-causes-plain causes ms rest = put-plain (codes "causes") (array (items cause_data causes)) ms (items-plain cause_data cause-plain causes) rest
+causes-plain causes refuted ms rest =
+    let m1 : Members = put (codes "causes") (array (items cause_data causes)) ms in
+    put-plain (codes "refuted") (array (items id_data refuted)) m1 (items-plain id_data (λ id. refl) refuted) (put-plain (codes "causes") (array (items cause_data causes)) ms (items-plain cause_data cause-plain causes) rest)
+
+alike-plain : (pids : List (Bor (List ℕ))) (ms : Members) → members_have_float ms ≡ false → members_have_float (with_alike pids ms) ≡ false
+unfolding with_alike
+alike-plain pids ms rest = put-plain (codes "alike") (array (items pid_data pids)) ms (items-plain pid_data (λ pid. refl) pids) rest
 
 -- ---- the whole
 
@@ -236,19 +257,21 @@ explanation-plain files e =
     let m2 : Members = with_client e.client m1 in
     let m3 : Members = with_account e.verdict.now e.account m2 in
     let m4 : Members = with_turns e.turns.now m3 in
-    let m5 : Members = with_evidence files e.evidence.now m4 in
-    let m6 : Members = with_also e.also.now m5 in
-    let m7 : Members = with_refused files e.refused.now m6 in
+    let m5 : Members = with_evidence files e.pid.now e.evidence.now m4 in
+    let m6 : Members = with_also e.also.now e.also_left m5 in
+    let m6a : Members = with_alike e.alike.now m6 in
+    let m7 : Members = with_refused files e.pid.now e.refused.now m6a in
     let m8 : Members = with_events e.events.now m7 in
     let p1 = verdict-plain e.pid.now e.verdict.now class no_members refl in
     let p2 = client-plain e.client m1 p1 in
     let p3 = account-plain e.verdict.now e.account m2 p2 in
     let p4 = turns-plain e.turns.now m3 p3 in
-    let p5 = evidence-plain files e.evidence.now m4 p4 in
-    let p6 = others-plain e.also.now m5 p5 in
-    let p7 = recoveries-plain files e.refused.now m6 p6 in
+    let p5 = evidence-plain files e.pid.now e.evidence.now m4 p4 in
+    let p6 = others-plain e.also.now e.also_left m5 p5 in
+    let p6a = alike-plain e.alike.now m6 p6 in
+    let p7 = recoveries-plain files e.pid.now e.refused.now m6a p6a in
     let p8 = events-plain e.events.now m7 p7 in
-    causes-plain e.causes.now m8 p8
+    causes-plain e.causes.now e.refuted.now m8 p8
 
 -- ---- a record by its number
 

@@ -1,6 +1,6 @@
 pub mod Apart
 pub mod Each
-pub mod Filled
+pub mod Pieces
 pub mod JsonLists
 pub mod JsonPlain
 pub mod Laid

@@ -1,25 +1,37 @@
 -- The other entries with the same fault.
-use Rattle.std.specs.Prelude.{ℕ, List, ◌++◌, codes, decimal, flat_map}
+use Rattle.std.specs.Prelude.{ℕ, List, [], ◌++◌, ◌==◌, codes, decimal, flat_map, if◌then◌else◌}
 use Rattle.aud_explanation.specs.declared.also.Also.{Also}
 use Rattle.aud_explanation.specs.Page.{laid_line}
-use Rattle.aud_explanation.specs.Span.{lines_listed}
+use Rattle.aud_explanation.specs.Span.{lines_listed, span}
 
--- the words that come first
-unfoldable pub also_entry : List ℕ
-also_entry = codes "    also entry "
+-- the words that come first, for the entries from one to another
+unfoldable pub also_words : ℕ → ℕ → List ℕ
+also_words from to = if from == to then codes "    also entry " else codes "    also entries "
 
--- the entry
-abbrev pub entry_words : ℕ → List ℕ
-entry_words position = also_entry ++ decimal position ++ codes ", "
+-- the entries
+abbrev pub entry_words : ℕ → ℕ → List ℕ
+entry_words from to = also_words from to ++ span from to ++ codes ", "
 
--- the entry, and the lines that show it
+-- the entries, and the lines that show them
 abbrev pub also_line : Also → List ℕ
-also_line also = entry_words also.position ++ lines_listed also.lines.now
+also_line also = entry_words also.position also.to ++ lines_listed also.lines.now
 
--- its line
+-- their line
 abbrev pub also_text : Also → List ℕ
 also_text also = laid_line (also_line also)
 
 -- a line for each
 abbrev pub others_text : List Also → List ℕ
 others_text others = flat_map also_text others
+
+-- the words that come last, for so many entries
+unfoldable pub more_words : ℕ → List ℕ
+more_words left = if left == 1 then codes " entry more" else codes " entries more"
+
+-- how many entries more have it
+abbrev pub more_line : ℕ → List ℕ
+more_line left = codes "    and " ++ decimal left ++ more_words left
+
+-- its line; none where none do
+abbrev pub more_text : ℕ → List ℕ
+more_text left = if left == 0 then [] else laid_line (more_line left)

@@ -1,22 +1,28 @@
 -- The causes.
-use Rattle.std.specs.Prelude.{ℕ, Bool, true, false, List, [], ◌∷◌, ◌++◌, codes, flat_map}
+use Rattle.std.specs.Prelude.{ℕ, Bool, true, false, not, List, [], ◌∷◌, ◌++◌, codes, decimal, flat_map, Some, None}
+use Rattle.std.specs.Borrow.{Bor}
+use Rattle.std.specs.List.{list_any}
 use Rattle.aud_explanation.specs.declared.cause.Cause.{Cause}
+use Rattle.aud_explanation.specs.declared.cause.CauseOf.{CauseOf}
+use Rattle.aud_explanation.specs.declared.cause.CauseOf.TheVariants.{Fault, Refused}
+use Rattle.aud_explanation.specs.CauseState.{state_word}
 use Rattle.aud_explanation.specs.Page.{laid_line}
 use Rattle.aud_explanation.specs.Span.{lines_listed}
-
--- whether the records leave no other cause
-abbrev pub sure_word : Bool → List ℕ
-sure_word true = codes "certain"
-sure_word false = codes "fits"
 
 -- the lines that say so, where there are any
 abbrev pub lines_words : List ℕ → List ℕ
 lines_words [] = []
 lines_words (n ∷ ns) = codes ", " ++ lines_listed (n ∷ ns)
 
+-- the ask of which it is, of a refused recovery
+abbrev pub of_words : CauseOf → List ℕ
+of_words Fault = []
+of_words (Refused None) = codes ", of the ask"
+of_words (Refused (Some line)) = codes ", of the ask on line " ++ decimal line
+
 -- what happened
 abbrev pub cause_line : Cause → List ℕ
-cause_line c = codes "cause " ++ c.id.now ++ codes " (" ++ sure_word c.sure ++ lines_words c.lines.now ++ codes "): " ++ c.why.now
+cause_line c = codes "cause " ++ c.id.now ++ codes " (" ++ state_word c.state ++ lines_words c.lines.now ++ of_words c.of ++ codes "): " ++ c.why.now
 
 -- what to do
 abbrev pub todo_line : List ℕ → List ℕ
@@ -26,6 +32,31 @@ todo_line todo = codes "do: " ++ todo
 abbrev pub cause_text : Cause → List ℕ
 cause_text c = laid_line (cause_line c) ++ laid_line (todo_line c.todo.now)
 
+-- ---- where none holds
+
+-- a cause of the fault
+abbrev pub is_of_fault : CauseOf → Bool
+is_of_fault Fault = true
+is_of_fault (Refused line) = false
+
+-- one of these causes is
+abbrev pub has_own : List Cause → Bool
+has_own causes = list_any (λ (c : Cause). is_of_fault c.of) causes
+
+-- causes of the fault are known: these were refuted, and none of those that hold is of the fault
+abbrev pub none_holds : List (Bor (List ℕ)) → List Cause → Bool
+none_holds [] causes = false
+none_holds (id ∷ refuted) causes = not (has_own causes)
+
+-- a line says so
+abbrev pub none_text : Bool → List ℕ
+none_text true = codes "no known cause of the fault holds\n"
+none_text false = []
+
 -- all causes
-abbrev pub causes_text : List Cause → List ℕ
-causes_text causes = flat_map cause_text causes
+abbrev pub each_text : List Cause → List ℕ
+each_text causes = flat_map cause_text causes
+
+-- and before them that none of the fault holds, where it is so
+abbrev pub causes_text : List (Bor (List ℕ)) → List Cause → List ℕ
+causes_text refuted causes = none_text (none_holds refuted causes) ++ each_text causes

@@ -1,8 +1,9 @@
 -- The row of what happened to the client.
-use Rattle.std.specs.Prelude.{ℕ, ◌+◌, min, Bool, List, [], ◌∷◌, ◌++◌, codes, decimal, length, nat_le, if◌then◌else◌, Option, Some, None}
+use Rattle.std.specs.Prelude.{ℕ, ◌+◌, ◌==◌, min, Bool, List, [], ◌∷◌, ◌++◌, codes, decimal, fold, length, map, nat_le, if◌then◌else◌, Option, Some, None}
 use Rattle.aud_explanation.specs.declared.event.ClientEvent.{ClientEvent}
 use Rattle.aud_explanation.specs.declared.event.Happens.{Happens}
 use Rattle.aud_explanation.specs.declared.event.Happens.TheVariants.{Asks, Reply, Refused, Got, Lost}
+use Rattle.aud_explanation.specs.Long.{first_shown, last_shown, left_out, more_words}
 use Rattle.aud_explanation.specs.Span.{span}
 
 -- the position after which the client asks to go on
@@ -34,12 +35,24 @@ piece column words = if has_room column words then codes "  " ++ words else code
 abbrev pub piece_end : ℕ → List ℕ → ℕ
 piece_end column words = if has_room column words then column + 2 + length words else 8 + min (length words) 92
 
--- the events from that column on, and the newline
-abbrev pub filled : ℕ → List ClientEvent → List ℕ
-filled column [] = codes "\n"
-filled column (e ∷ es) = piece column (event_words e) ++ filled (piece_end column (event_words e)) es
+-- the column after all of these words
+abbrev pub pieces_end : ℕ → List (List ℕ) → ℕ
+pieces_end column texts = fold piece_end column texts
+
+-- all of these words from that column on
+abbrev pub pieces : ℕ → List (List ℕ) → List ℕ
+pieces column [] = []
+pieces column (words ∷ texts) = piece column words ++ pieces (piece_end column words) texts
+
+-- how many events are left out, where some are
+abbrev pub left_words : ℕ → List (List ℕ)
+left_words n = if n == 0 then [] else more_words n ∷ []
+
+-- the words of the row: of more than 200 events the first 100, how many are left out, and the last 100
+abbrev pub row_words : List ClientEvent → List (List ℕ)
+row_words events = map event_words (first_shown events) ++ left_words (left_out events) ++ map event_words (last_shown events)
 
 -- the row, where there is something
 abbrev pub events_text : List ClientEvent → List ℕ
 events_text [] = []
-events_text (e ∷ es) = codes "    client" ++ filled 10 (e ∷ es)
+events_text (e ∷ es) = codes "    client" ++ pieces 10 (row_words (e ∷ es)) ++ codes "\n"

@@ -5,7 +5,7 @@ use Rattle.aud_rows.specs.declared.row.Row.{Row}
 use Rattle.aud_input.specs.declared.input_file.InputFile.{InputFile}
 use Rattle.aud_input.specs.InputFiles.{place_told}
 use Rattle.aud_explanation.specs.Page.{laid_line, to_left, to_right}
-use Rattle.aud_explanation.specs.Record.{record_text}
+use Rattle.aud_explanation.specs.Record.{record_text, other_session, of_words}
 use Rattle.aud_explanation.specs.Mark.{mark}
 use Rattle.aud_explanation.specs.Place.{place_text}
 
@@ -13,27 +13,31 @@ use Rattle.aud_explanation.specs.Place.{place_text}
 abbrev pub tap_width : List Row → ℕ
 tap_width rows = fold (λ width row. max width (length row.tap.now)) 3 rows
 
+-- what the record of a row says, and of which session, where that isn't the one with this pid
+abbrev pub said_words : List ℕ → Row → List ℕ
+said_words pid row = record_text row.says ++ of_words (other_session pid row.session)
+
 -- a row: the line, the tap, what the record says, and what it is shown for
-abbrev pub row_words : Verdict → ℕ → Row → List ℕ
-row_words verdict width row = to_right 8 (decimal row.line) ++ codes " " ++ to_left width row.tap.now ++ codes "  " ++ record_text row.says ++ mark row.role verdict
+abbrev pub row_words : List ℕ → Verdict → ℕ → Row → List ℕ
+row_words pid verdict width row = to_right 8 (decimal row.line) ++ codes " " ++ to_left width row.tap.now ++ codes "  " ++ said_words pid row ++ mark row.role verdict
 
 -- the same, and where the line stands, where there are several files
-abbrev pub row_line : List InputFile → Verdict → ℕ → Row → List ℕ
-row_line files verdict width row = row_words verdict width row ++ place_text (place_told files row.line)
+abbrev pub row_line : List InputFile → List ℕ → Verdict → ℕ → Row → List ℕ
+row_line files pid verdict width row = row_words pid verdict width row ++ place_text (place_told files row.line)
 
 -- its line, laid out: the name of a file stands there as it is printed, as all else does
-abbrev pub row_text : List InputFile → Verdict → ℕ → Row → List ℕ
-row_text files verdict width row = laid_line (row_line files verdict width row)
+abbrev pub row_text : List InputFile → List ℕ → Verdict → ℕ → Row → List ℕ
+row_text files pid verdict width row = laid_line (row_line files pid verdict width row)
 
 -- the heading of the table
 abbrev pub heading_text : ℕ → List ℕ
 heading_text width = laid_line (codes "    line " ++ to_left width (codes "tap") ++ codes "  record")
 
 -- the heading, and a line for each row
-abbrev pub table_text : List InputFile → Verdict → List Row → List ℕ
-table_text files verdict rows = heading_text (tap_width rows) ++ flat_map (row_text files verdict (tap_width rows)) rows
+abbrev pub table_text : List InputFile → List ℕ → Verdict → List Row → List ℕ
+table_text files pid verdict rows = heading_text (tap_width rows) ++ flat_map (row_text files pid verdict (tap_width rows)) rows
 
--- the table, where there are rows
-abbrev pub evidence_text : List InputFile → Verdict → List Row → List ℕ
-evidence_text files verdict [] = []
-evidence_text files verdict (row ∷ rows) = table_text files verdict (row ∷ rows)
+-- the table, where there are rows: those of the session with this pid
+abbrev pub evidence_text : List InputFile → List ℕ → Verdict → List Row → List ℕ
+evidence_text files pid verdict [] = []
+evidence_text files pid verdict (row ∷ rows) = table_text files pid verdict (row ∷ rows)

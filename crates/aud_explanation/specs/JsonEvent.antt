@@ -6,6 +6,7 @@ use Rattle.aud_explanation.specs.declared.event.ClientEvent.{ClientEvent}
 use Rattle.aud_explanation.specs.declared.event.Happens.{Happens}
 use Rattle.aud_explanation.specs.declared.event.Happens.TheVariants.{Asks, Reply, Refused, Got, Lost}
 use Rattle.aud_explanation.specs.JsonValue.{number_or_null}
+use Rattle.aud_explanation.specs.Long.{all_shown, left_out}
 
 -- what happens
 abbrev pub happens_word : Happens → List ℕ
@@ -39,6 +40,6 @@ event_data e =
     (member (codes "lines") (array (items whole (e.first ∷ e.last ∷ [])))
     (member (codes "to") (to_data e.happens) no_members)))))
 
--- all of it, in order
+-- the events that are shown, in order, and how many are left out after the hundredth
 unfoldable pub with_events : List ClientEvent → Members → Members
-with_events events ms = put (codes "events") (array (items event_data events)) ms
+with_events events ms = put (codes "events_left") (whole (left_out events)) (put (codes "events") (array (items event_data (all_shown events))) ms)

@@ -8,7 +8,8 @@ use Rattle.aud_rows.specs.declared.row.Row.{Row}
 use Rattle.aud_rows.specs.declared.row.Role.{Role}
 use Rattle.aud_rows.specs.declared.row.Role.TheVariants.{Fault, Earlier, Later, Entry, Reached, Room, Left, Break, Back, Ask, Reply}
 use Rattle.aud_explanation.specs.Place.{with_place}
-use Rattle.aud_explanation.specs.Record.{record_text}
+use Rattle.aud_explanation.specs.JsonValue.{text_or_null}
+use Rattle.aud_explanation.specs.Record.{record_text, other_session}
 
 -- what a record is shown for
 abbrev pub role_word : Role → List ℕ
@@ -24,14 +25,19 @@ role_word Back = codes "back"
 role_word Ask = codes "ask"
 role_word Reply = codes "reply"
 
--- the line, what the record is shown for, what it says, and its tap
-unfoldable pub with_row : Row → Members → Members
-with_row row ms = put (codes "tap") (string row.tap.now) (put (codes "says") (string (record_text row.says)) (put (codes "role") (string (role_word row.role)) (put (codes "line") (whole row.line) ms)))
+-- the line, the session, where it isn't the one with this pid, what the record is shown for, what it says, and its tap
+unfoldable pub with_row : List ℕ → Row → Members → Members
+with_row pid row ms =
+    put (codes "tap") (string row.tap.now)
+    (put (codes "says") (string (record_text row.says))
+    (put (codes "role") (string (role_word row.role))
+    (put (codes "of") (text_or_null (other_session pid row.session))
+    (put (codes "line") (whole row.line) ms))))
 
--- `{"file":..,"file_line":..,"line":..,"role":..,"says":..,"tap":..}`
-abbrev pub row_data : List InputFile → Row → Data
-row_data files row = object (with_row row (with_place (place_told files row.line) no_members))
+-- `{"file":..,"file_line":..,"line":..,"of":..,"role":..,"says":..,"tap":..}`
+abbrev pub row_data : List InputFile → List ℕ → Row → Data
+row_data files pid row = object (with_row pid row (with_place (place_told files row.line) no_members))
 
--- the rows
-unfoldable pub with_evidence : List InputFile → List Row → Members → Members
-with_evidence files rows ms = put (codes "evidence") (array (items (row_data files) rows)) ms
+-- the rows of the session with this pid
+unfoldable pub with_evidence : List InputFile → List ℕ → List Row → Members → Members
+with_evidence files pid rows ms = put (codes "evidence") (array (items (row_data files pid) rows)) ms

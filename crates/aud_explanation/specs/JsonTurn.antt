@@ -8,6 +8,7 @@ use Rattle.aud_explanation.specs.declared.turn.TurnBegin.TheVariants.{Open, Back
 use Rattle.aud_explanation.specs.declared.turn.TurnEnd.{TurnEnd}
 use Rattle.aud_explanation.specs.declared.turn.TurnEnd.TheVariants.{Break, Gone, Log, Missing}
 use Rattle.aud_explanation.specs.JsonValue.{number_or_null}
+use Rattle.aud_explanation.specs.Long.{all_shown, left_out}
 
 -- how a turn begins
 abbrev pub begin_word : TurnBegin → List ℕ
@@ -57,6 +58,6 @@ turn_data t =
     (member (codes "took") (took_data t.took)
     (member (codes "turn") (whole t.turn) no_members)))))
 
--- the turns
+-- the turns that are shown, and how many are left out after the hundredth
 unfoldable pub with_turns : List TurnShown → Members → Members
-with_turns turns ms = put (codes "turns") (array (items turn_data turns)) ms
+with_turns turns ms = put (codes "turns_left") (whole (left_out turns)) (put (codes "turns") (array (items turn_data (all_shown turns))) ms)

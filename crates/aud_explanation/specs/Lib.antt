@@ -15,11 +15,14 @@ pub mod Place
 pub mod Verdict
 pub mod Client
 pub mod Evidence
+pub mod Long
 pub mod Span
 pub mod AlsoText
+pub mod AlikeText
 pub mod TurnText
 pub mod EventText
 pub mod RefusedText
+pub mod CauseState
 pub mod CauseText
 pub mod Text
 pub mod JsonValue
@@ -28,6 +31,7 @@ pub mod JsonAccount
 pub mod JsonRow
 pub mod JsonTurn
 pub mod JsonAlso
+pub mod JsonAlike
 pub mod JsonRefused
 pub mod JsonEvent
 pub mod JsonCause

@@ -1,6 +1,7 @@
--- What a record says, in words.
-use Rattle.std.specs.Prelude.{ℕ, List, ◌++◌, codes, decimal, Option, Some, None}
+-- What a record says, in words, and of which session.
+use Rattle.std.specs.Prelude.{ℕ, List, [], ◌++◌, codes, decimal, if◌then◌else◌, Option, Some, None}
 use Rattle.std.specs.Borrow.{Bor}
+use Rattle.std.specs.Str.{bytes_eq}
 use Rattle.aud_rows.specs.declared.row.Says.{Says}
 use Rattle.aud_rows.specs.declared.row.Says.TheVariants.{Entry, Start, Take, Takes, Open, Join, Leave, Break, Back, Gone, Asks, Reply, Got, Lost, NoPacket}
 
@@ -51,3 +52,13 @@ record_text (Reply conn sid pid) = reply_words conn sid.now pid
 record_text (Got conn position off) = codes "conn " ++ decimal conn ++ codes " got " ++ decimal position ++ codes " " ++ off.now
 record_text (Lost conn) = codes "conn " ++ decimal conn ++ codes " lost"
 record_text (NoPacket conn) = codes "conn " ++ decimal conn ++ codes " no packet"
+
+-- the session that a record speaks of, where it isn't the one with this pid
+abbrev pub other_session : List ℕ → Option (Bor (List ℕ)) → Option (List ℕ)
+other_session pid (Some session) = if bytes_eq session.now pid then None else Some session.now
+other_session pid None = None
+
+-- that session, in words
+abbrev pub of_words : Option (List ℕ) → List ℕ
+of_words (Some session) = codes " of " ++ session
+of_words None = []

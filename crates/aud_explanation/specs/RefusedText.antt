@@ -6,6 +6,7 @@ use Rattle.aud_rows.specs.declared.row.Row.{Row}
 use Rattle.aud_input.specs.declared.input_file.InputFile.{InputFile}
 use Rattle.aud_explanation.specs.declared.refused.Missed.{Missed}
 use Rattle.aud_explanation.specs.declared.refused.RefusedRecovery.{RefusedRecovery}
+use Rattle.aud_explanation.specs.Long.{first_shown, last_shown, left_out, more_line}
 use Rattle.aud_explanation.specs.Page.{laid_line}
 use Rattle.aud_explanation.specs.Evidence.{row_text}
 
@@ -28,9 +29,9 @@ abbrev pub head_text : RefusedRecovery → List ℕ
 head_text r = laid_line (head_line r)
 
 -- the row of the reply, where there is one
-abbrev pub reply_text : List InputFile → Verdict → ℕ → Option Row → List ℕ
-reply_text files verdict width (Some reply) = row_text files verdict width reply
-reply_text files verdict width None = []
+abbrev pub reply_text : List InputFile → List ℕ → Verdict → ℕ → Option Row → List ℕ
+reply_text files pid verdict width (Some reply) = row_text files pid verdict width reply
+reply_text files pid verdict width None = []
 
 -- an entry that was missed
 abbrev pub missed_line : Missed → List ℕ
@@ -40,15 +41,15 @@ missed_line m = codes "    missed entry " ++ decimal m.position ++ codes " " ++ 
 abbrev pub missed_text : Missed → List ℕ
 missed_text m = laid_line (missed_line m)
 
--- a line for each, where they are known
+-- a line for each that is shown, and one that says how many are left out, where they are known
 abbrev pub all_missed_text : Option (List Missed) → List ℕ
-all_missed_text (Some entries) = flat_map missed_text entries
+all_missed_text (Some entries) = flat_map missed_text (first_shown entries) ++ more_line (left_out entries) ++ flat_map missed_text (last_shown entries)
 all_missed_text None = []
 
 -- what the client got instead, the ask and the reply, and what it missed
-abbrev pub refused_text : List InputFile → Verdict → RefusedRecovery → List ℕ
-refused_text files verdict r = head_text r ++ row_text files verdict (length r.ask.tap.now) r.ask ++ reply_text files verdict (length r.ask.tap.now) r.reply ++ all_missed_text (option_copied r.missed)
+abbrev pub refused_text : List InputFile → List ℕ → Verdict → RefusedRecovery → List ℕ
+refused_text files pid verdict r = head_text r ++ row_text files pid verdict (length r.ask.tap.now) r.ask ++ reply_text files pid verdict (length r.ask.tap.now) r.reply ++ all_missed_text (option_copied r.missed)
 
--- all of them
-abbrev pub all_refused_text : List InputFile → Verdict → List RefusedRecovery → List ℕ
-all_refused_text files verdict recoveries = flat_map (refused_text files verdict) recoveries
+-- all of them: those of the session with this pid
+abbrev pub all_refused_text : List InputFile → List ℕ → Verdict → List RefusedRecovery → List ℕ
+all_refused_text files pid verdict recoveries = flat_map (refused_text files pid verdict) recoveries

@@ -1,10 +1,12 @@
 //! Other entries with the same fault.
 
-/// An entry that has the fault too.
+/// Entries, one after the other in the stream, that have the fault too.
 #[derive(Clone, Copy, Debug, Drop)]
 pub struct Also<'r> {
-    /// Positions count from 1.
+    /// The first of them; positions count from 1.
     pub position: u64,
-    /// The lines that show it; lines count from 1.
+    /// The last of them.
+    pub to: u64,
+    /// The lines that show it, which count from 1: of more than one entry a line of the first and one of the last.
     pub lines: &'r [u64],
 }

@@ -28,14 +28,20 @@ pub struct Explanation<'s, 'l, 'r> {
     pub turns: &'s [TurnShown<'r>],
     /// The records that show the fault.
     pub evidence: &'s [Row<'r>],
-    /// The other entries with the same fault.
+    /// The other entries with the same fault, in ranges.
     pub also: &'s [Also<'l>],
+    /// How many entries past these ranges have it.
+    pub also_left: u64,
+    /// The pids of other sessions with the same fault at the same record, which have no explanation of their own.
+    pub alike: &'s [&'r str],
     /// The recoveries of this session that were asked for and refused.
     pub refused: &'s [RefusedRecovery<'l, 'r>],
     /// What happened to the client, in the order of its tap.
     pub events: &'s [ClientEvent],
-    /// What the fault may come from.
+    /// What the fault may come from, and after that what the refused recoveries may come from.
     pub causes: &'s [Cause<'l>],
+    /// The names of the causes that such a fault can have, and of which none of these is.
+    pub refuted: &'s [&'static str],
 }
 
 /// The class of what is explained: that of the fault, or delivery where there is none and a recovery was refused.

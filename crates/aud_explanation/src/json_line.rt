@@ -4,6 +4,7 @@ ghost use Rattle.serde_json.specs.View.{view, members_view};
 ghost use Rattle.aud_explanation.specs.Json.{head_members, shown_members, told_members, explanation_data, explanation_json};
 
 mod account;
+mod alike;
 mod also;
 mod cause;
 mod event;
@@ -16,6 +17,7 @@ mod verdict;
 
 use crate::explanation::{Explanation, class_of_explained};
 use crate::json_line::account::{put_account, put_client};
+use crate::json_line::alike::put_alike;
 use crate::json_line::also::put_also;
 use crate::json_line::cause::put_causes;
 use crate::json_line::event::put_events;
@@ -53,8 +55,8 @@ fn put_shown(
         ≡ shown_members files.now explanation.now (members_view members.old.entries)) }
 {
     put_turns(alloc, members, explanation.turns)?;
-    put_evidence(alloc, members, files, explanation.evidence)?;
-    put_also(alloc, members, explanation.also)
+    put_evidence(alloc, members, files, explanation.pid, explanation.evidence)?;
+    put_also(alloc, members, explanation.also, explanation.also_left)
 }
 
 /// Puts the refused recoveries, what happened to the client, and the causes.
@@ -67,9 +69,9 @@ fn put_told(
     ensures { OnOk result (members_view members.new.entries
         ≡ told_members files.now explanation.now (members_view members.old.entries)) }
 {
-    put_refused(alloc, members, files, explanation.refused)?;
+    put_refused(alloc, members, files, explanation.pid, explanation.refused)?;
     put_events(alloc, members, explanation.events)?;
-    put_causes(alloc, members, explanation.causes)
+    put_causes(alloc, members, explanation.causes, explanation.refuted)
 }
 
 fn explanation_value(
@@ -82,6 +84,7 @@ fn explanation_value(
     let mut members = Map::new(alloc);
     put_head(alloc, &mut members, explanation)?;
     put_shown(alloc, &mut members, files, explanation)?;
+    put_alike(alloc, &mut members, explanation.alike)?;
     put_told(alloc, &mut members, files, explanation)?;
     Ok(Value::Object(members))
 }
@@ -89,8 +92,13 @@ fn explanation_value(
 /// The explanation as one line of JSON, without blanks and without a newline, its keys in byte order. Each member is
 /// always there: what is not known is `null`. `v` is the version of these members, 1.
 ///
+/// Of more than 200 turns, events of the client, or entries that it missed after a refused recovery, the first 100 and
+/// the last 100 stand there; `turns_left`, `events_left` and `missed_left` are how many are left out between them, and 0
+/// where all stand there.
+///
 /// `files` are those of the input, in which the lines of rows are counted: the `file` of a row is the name of the one in
 /// which its line stands, and `file_line` the line's number there. Both are `null` where there are fewer than two files.
+/// The `of` of a row is the session that its record speaks of, `null` where that is the one that is explained, or none.
 pub fn explanation_json(
     alloc: Global,
     files: &[InputFile],

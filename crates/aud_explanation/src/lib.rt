@@ -18,9 +18,12 @@
 //!     turns: &[],
 //!     evidence: &[],
 //!     also: &[],
+//!     also_left: 0,
+//!     alike: &[],
 //!     refused: &[],
 //!     events: &[],
 //!     causes: &[],
+//!     refuted: &[],
 //! };
 //! let mut out = String::new(alloc);
 //! push_text(alloc, &mut out, &[], &explanation)?;
@@ -37,6 +40,7 @@ mod event;
 mod explanation;
 mod fault;
 mod json_line;
+mod long;
 mod refused;
 mod tail;
 mod text;
@@ -44,7 +48,7 @@ mod turn;
 mod whole_record;
 
 pub use also::Also;
-pub use cause::Cause;
+pub use cause::{Cause, CauseOf, CauseState};
 pub use client::{Account, Client};
 pub use escape::{printed, printed_apart, push_printed};
 pub use event::{ClientEvent, Happens};

@@ -2,6 +2,7 @@
 ghost use Rattle.std.specs.Prelude.{◌≡◌, ◌++◌, OnOk, string_bytes};
 ghost use Rattle.aud_explanation.specs.Text.{shown_text, told_text, explanation_text};
 
+mod alike;
 mod also;
 mod cause;
 mod client;
@@ -17,13 +18,14 @@ mod turn;
 mod verdict;
 
 use crate::explanation::{Explanation, class_of_explained};
-use crate::text::also::push_also;
+use crate::text::alike::push_alike;
+use crate::text::also::{push_also, push_more};
 use crate::text::cause::push_causes;
 use crate::text::client::push_client;
 use crate::text::event::push_events;
 use crate::text::evidence::push_evidence;
 pub(crate) use crate::text::place::push_place;
-pub(crate) use crate::text::record::push_record;
+pub(crate) use crate::text::record::{other_session, push_record};
 use crate::text::refused::push_refused;
 use crate::text::turn::push_turns;
 use crate::text::verdict::push_verdict;
@@ -51,8 +53,16 @@ fn push_shown(
         turns,
         explanation.account,
     )?;
-    push_evidence(alloc, out, files, explanation.verdict, explanation.evidence)?;
-    push_also(alloc, out, explanation.also)
+    push_evidence(
+        alloc,
+        out,
+        files,
+        explanation.pid,
+        explanation.verdict,
+        explanation.evidence,
+    )?;
+    push_also(alloc, out, explanation.also)?;
+    push_more(alloc, out, explanation.also_left)
 }
 
 /// Puts the timeline, the refused recoveries and the causes at the end.
@@ -67,19 +77,31 @@ fn push_told(
 {
     push_turns(alloc, out, explanation.turns)?;
     push_events(alloc, out, explanation.events)?;
-    push_refused(alloc, out, files, explanation.verdict, explanation.refused)?;
-    push_causes(alloc, out, explanation.causes)
+    push_refused(
+        alloc,
+        out,
+        files,
+        explanation.pid,
+        explanation.verdict,
+        explanation.refused,
+    )?;
+    push_causes(alloc, out, explanation.refuted, explanation.causes)
 }
 
 /// Puts the text of an explanation at the end: the verdict with its class, the client, the evidence, the other entries
-/// with the same fault, a row for each turn and one for the client, the refused recoveries, and the causes.
+/// with the same fault and the other sessions with it, a row for each turn and one for the client, the refused
+/// recoveries, and the causes.
 ///
 /// A line has at most 100 columns, a character a column. A word that does not stand within it goes on in the next line,
-/// after eight blanks, and so does what is left of a word that is longer than a line: nothing is left out. A character
-/// stands there as [`push_printed`](crate::push_printed) puts it, its escape within one line.
+/// after eight blanks, and so does what is left of a word that is longer than a line: nothing of it is left out. A
+/// character stands there as [`push_printed`](crate::push_printed) puts it, its escape within one line.
+///
+/// Of more than 200 turns, events of the client, or entries that it missed after a refused recovery, the first 100 and
+/// the last 100 stand there, and between them how many are left out.
 ///
 /// `files` are those of the input, in which the lines of rows are counted: a row says in which of them its line stands,
-/// by its name, and the line's number there. Nothing is said of files where there are fewer than two.
+/// by its name, and the line's number there. Nothing is said of files where there are fewer than two. A row whose record
+/// speaks of another session names that, as `join r of p7`.
 pub fn push_text(
     alloc: Global,
     out: &mut String,
@@ -90,5 +112,6 @@ pub fn push_text(
         ≡ string_bytes out.old ++ explanation_text files.now explanation.now) }
 {
     push_shown(alloc, out, files, explanation)?;
+    push_alike(alloc, out, explanation.alike)?;
     push_told(alloc, out, files, explanation)
 }

@@ -1,7 +1,11 @@
 -- What is told of a session by its account: its other entries, and its tail.
 use Rattle.std.proofs.Common.{◌≡◌, ◌<◌, ℕ, List, [], ◌∷◌, map, length, drop, take, slice_get, Option, Some, None, refl, sym, ap, subst, ◌∙◌, inl, inr}
 use Rattle.std.proofs.lemmas.Option.{none-some, same_Some, slice_get_within}
+use Rattle.std.proofs.lemmas.List.Kept.{AllPairs-from_increasing}
 use Rattle.aud_node.specs.Cluster.{Cluster}
+use Rattle.aud_rooms.specs.Turns.{slice_of}
+use Rattle.aud_rooms.specs.TurnsDue.{is_turn_due}
+use Rattle.aud_rooms.proofs.Ascending.{filter-ascends}
 use Rattle.aud_node.specs.Names.{AreNamedOnce}
 use Rattle.aud_node.specs.Stream.{Text}
 use Rattle.aud_client.specs.StaySeen.{StaySeen}
@@ -15,23 +19,27 @@ use Rattle.aud_check.specs.declared.difference.Difference.{Difference}
 use Rattle.aud_check.specs.declared.difference.Difference.TheVariants as parted
 use Rattle.aud_check.specs.declared.finding.Finding.{Finding}
 use Rattle.aud_check.specs.declared.finding.Finding.TheVariants as finding
-use Rattle.aud_check.specs.Difference.{IsDifference}
+use Rattle.aud_check.specs.Difference.{IsAscending, IsDifference}
 use Rattle.aud_check.specs.Window.{positions_received}
 use Rattle.aud_input.specs.TapLines.{TapLines}
 use Rattle.aud_rows.specs.Seen.{RowSeen}
 use Rattle.aud_shown.specs.ShowsDifference.{AreNumbersOf}
-use Rattle.aud_verdict.specs.Session.{own_stays, due_to}
-use Rattle.aud_findings.specs.Also.{AlsoSeen, AreAlso, AreTailAlso, also_at, entry_also, others, tail_others}
+use Rattle.aud_verdict.specs.Session.{SessionLogs, own_stays, due_to}
+use Rattle.aud_findings.specs.Also.{AreAllOf, AreAlso, AreTailAlso, OthersSeen, entry_lines, is_also, lines_at, no_others, tail_others, told_of}
 use Rattle.aud_findings.specs.Received.{frame_of, tail_positions}
 use Rattle.aud_findings.specs.Tail.{ShowsTail, tail_rows}
 use Rattle.aud_findings.specs.Private.Known.{IsWithin}
+
+-- what was due to a session ascends
+due_ascends : (c : Cluster) (s : SessionLogs) → IsAscending (due_to c s)
+due_ascends c s = AllPairs-from_increasing _ (filter-ascends (is_turn_due c.stream s.who (map (slice_of c) s.turns)) 1 (length c.stream))
 
 -- what was found of the account is what is found of its session
 pub own_found : (c : Cluster) (pid : Text) (a : Account) (of : IsAccountOf c pid a) → IsFound c of.is.session.client (own_stays c of.is.session) (due_to c of.is.session) a.found
 own_found c pid a of = subst (λ found_by. found_by) (λ i. IsFound c (of.is.client_is i) (of.is.stays_are i) (of.is.due_is i) a.found) of.found
 
 -- where no difference was found there are no others
-pub none_also : (c : Cluster) (lines : List TapLines) (pid : Text) (a : Account) → IsAccountOf c pid a → difference_found a.found ≡ None → AreAlso c lines pid []
+pub none_also : (c : Cluster) (lines : List TapLines) (pid : Text) (a : Account) → IsAccountOf c pid a → difference_found a.found ≡ None → AreAlso c lines pid no_others
 none_also c lines pid a of none = record { session = of.is.session; is_session = of.is.is_session; are = inr ((a.found, own_found c pid a of, none), refl) }
 
 -- the difference that was found is one
@@ -60,16 +68,6 @@ found_within c pid a of = go (difference_found a.found) refl
     go None e = tt
     go (Some d) e = shows_within (positions_received (stays_of a)) a.due.items d (is_found_so c pid a of d e)
 
--- the entries after the first one of a hundred and one
-pub after-first : (positions : List ℕ) → drop 1 (take 101 positions) ≡ take 100 (drop 1 positions)
-after-first [] = refl
-after-first (p ∷ positions) = refl
-
--- the first of a hundred and one
-pub first-kept : (positions : List ℕ) → slice_get (take 101 positions) 0 ≡ slice_get positions 0
-first-kept [] = refl
-first-kept (p ∷ positions) = refl
-
 module _ (c : Cluster) (lines : List TapLines) (pid : Text) (client : ℕ) (stays : List StaySeen) (due : List ℕ) (account : IsAccount c pid client stays due)
     (received owed : List ℕ) (received_is : received ≡ positions_received stays) (owed_is : owed ≡ due) where
   recv : received ≡ positions_received (own_stays c account.session)
@@ -80,9 +78,10 @@ module _ (c : Cluster) (lines : List TapLines) (pid : Text) (client : ℕ) (stay
 
   -- these are those of the difference
   pub some_also : (difference : Difference) → IsDifference (positions_received stays) due difference → (place : ℕ) (numbers : List ℕ) → place ≡ client
-      → AreNumbersOf c pid place numbers → (also : List AlsoSeen) → also ≡ map (also_at c lines place numbers received difference) (others received owed difference)
+      → AreNumbersOf c pid place numbers → (also : OthersSeen) (others : List ℕ)
+      → (IsAscending owed → AreAllOf (is_also received owed difference) others) → also ≡ told_of (lines_at c lines place numbers received difference) others
       → AreAlso c lines pid also
-  some_also difference is place numbers at are also those =
+  some_also difference is place numbers at are also others all those =
       let s = account.session in
       let there : place ≡ s.client = at ∙ account.client_is in
       record {
@@ -94,17 +93,19 @@ module _ (c : Cluster) (lines : List TapLines) (pid : Text) (client : ℕ) (stay
               subst (λ ss. IsDifference (positions_received ss) (due_to c s) difference) account.stays_are (subst (λ ds. IsDifference (positions_received stays) ds difference) account.due_is is);
           numbers = numbers;
           are_its_stays = subst (λ p. AreNumbersOf c pid p numbers) there are;
-          are = those ∙ (λ i. map (also_at c lines (there i) numbers (recv i) difference) (others (recv i) (owes i) difference));
+          others = others;
+          are_all = subst (λ all. all) (λ i. AreAllOf (is_also (recv i) (owes i) difference) others) (all (subst IsAscending (sym owes) (due_ascends c s)));
+          are = those ∙ (λ i. told_of (lines_at c lines (there i) numbers (recv i) difference) others);
         });
       }
 
   -- the entries of the tail after the first
-  pub tail-also : (also : List AlsoSeen) → also ≡ map (entry_also c lines) (tail_others received owed) → AreTailAlso c lines pid also
+  pub tail-also : (also : OthersSeen) → also ≡ told_of (entry_lines c lines) (tail_others received owed) → AreTailAlso c lines pid also
   tail-also also are =
       record {
         session = account.session;
         is_session = account.is_session;
-        are = are ∙ (λ i. map (entry_also c lines) (tail_others (recv i) (owes i)));
+        are = are ∙ (λ i. told_of (entry_lines c lines) (tail_others (recv i) (owes i)));
       }
 
   -- the rows of the tail, by the session's certificate

@@ -1,6 +1,8 @@
 pub mod Numbers
 pub mod Shown
 pub mod ByAccount
+pub mod InRanges
+pub mod AllOf
 pub mod Counts
 pub mod Told
 pub mod Read

@@ -1,20 +1,20 @@
 //! The other entries that have the same fault, with the lines that show it.
-ghost use Rattle.std.specs.Prelude.{◌≡◌, ◌++◌, IfOk, IfSome, OnOk, is_some, map, option_map};
+ghost use Rattle.std.specs.Prelude.{◌≡◌, ◌++◌, IfOk, IfSome, OnOk, is_some, option_map};
 ghost use Rattle.aud_session_facts.specs.Account.{IsAccountOf};
 ghost use Rattle.aud_rows.specs.ClientPlaces.{AreOf};
-ghost use Rattle.aud_rows.specs.declared.row.Role.TheVariants.{Entry};
-ghost use Rattle.aud_rows.specs.Rows.{stream_row};
 ghost use Rattle.aud_rows.specs.Seen.{row_seen};
 ghost use Rattle.aud_rows.specs.StayRows.{stays_at};
 ghost use Rattle.aud_rows.specs.TrueRow.{IsTrueRow};
 ghost use Rattle.aud_shown.specs.FramePlaces.{frame_at};
 ghost use Rattle.aud_findings.specs.Prepared.{IsPreparedOf};
-ghost use Rattle.aud_findings.specs.Also.{AreAlso, IsAlsoShown, also_at, also_seen, entry_also, frame_lines, frame_row_at, frames_also, is_short, line_of};
+ghost use Rattle.aud_findings.specs.Also.{AreAlso, IsAlsoShown, also_seen, end_lines, entry_lines, frame_row_at, got_lines, is_short, line_of, lines_at, no_others, others_seen, range_shown, told_of};
 ghost use Rattle.aud_findings.specs.Received.{is_parted};
+ghost use Rattle.aud_findings.specs.Private.InRanges.{range_seen};
 
 use crate::others::others;
-use crate::outcome::AlsoShown;
+use crate::outcome::{AlsoShown, OthersShown};
 use crate::prepared::Prepared;
+use crate::ranges::{Range, ranges_of};
 use crate::replies::numbers_naming;
 use crate::tail::tail_also;
 use aud_cert::Fault;
@@ -35,16 +35,26 @@ pub(crate) fn also_found<'r, 'a>(
     pid: &str,
     verdict: &Verdict,
     account: Option<&Account<'r, 'a>>,
-) -> Result<Vec<AlsoShown>, AllocError>
+) -> Result<OthersShown, AllocError>
     requires prepared { IsPreparedOf sheet.now.recording.now prepared.now }
     requires account { IfSome account (λ a. IsAccountOf sheet.now.recording.now pid.now a.now) }
     ensures { IfOk result (λ also. IsAlsoShown sheet.now.recording.now sheet.now.lines.now pid.now
-        (is_some account.entry) verdict.now (map also_seen also.items)) }
+        (is_some account.entry) verdict.now (others_seen also)) }
 {
     match account {
         Some(account) if is_parted(verdict) => also_in(alloc, sheet, prepared, pid, account),
         Some(account) if is_short(verdict) => tail_also(alloc, sheet, account),
-        _ => Ok(Vec::new(alloc)),
+        _ => Ok(no_others(alloc)),
+    }
+}
+
+/// None.
+fn no_others(alloc: Global) -> OthersShown
+    ensures { others_seen result ≡ no_others }
+{
+    OthersShown {
+        ranges: Vec::new(alloc),
+        left: 0,
     }
 }
 
@@ -55,11 +65,11 @@ fn also_in<'r, 'a>(
     prepared: &Prepared,
     pid: &str,
     account: &Account<'r, 'a>,
-) -> Result<Vec<AlsoShown>, AllocError>
+) -> Result<OthersShown, AllocError>
     requires prepared { IsPreparedOf sheet.now.recording.now prepared.now }
     requires account { IsAccountOf sheet.now.recording.now pid.now account.now }
     ensures { IfOk result (λ also. AreAlso sheet.now.recording.now sheet.now.lines.now pid.now
-        (map also_seen also.items)) }
+        (others_seen also)) }
 {
     match prepared.tap(account.client) {
         Some(tap) => also_of(alloc, sheet, tap, pid, account),
@@ -91,22 +101,22 @@ fn is_short(verdict: &Verdict) -> bool
 }
 
 /// The other entries with the fault of the difference between what was received of the session and what was due to it;
-/// none where that isn't what is wrong first. Each of a hundred entries at most costs what was received.
+/// none where that isn't what is wrong first. Each of a hundred ranges at most costs what was received.
 fn also_of<'r, 'a>(
     alloc: Global,
     sheet: &Sheet<'r, 'a>,
     tap: &ClientPlaces,
     pid: &str,
     account: &Account<'r, 'a>,
-) -> Result<Vec<AlsoShown>, AllocError>
+) -> Result<OthersShown, AllocError>
     requires tap { AreOf sheet.now.recording.now tap.now }
     requires place { tap.now.place ≡ account.now.client }
     requires account { IsAccountOf sheet.now.recording.now pid.now account.now }
     ensures { IfOk result (λ also. AreAlso sheet.now.recording.now sheet.now.lines.now pid.now
-        (map also_seen also.items)) }
+        (others_seen also)) }
 {
     let Some(difference) = account.difference() else {
-        return Ok(Vec::new(alloc));
+        return Ok(no_others(alloc));
     };
     let numbers = numbers_naming(sheet.recording, tap.place, pid);
     let stays = account.stays.as_slice();
@@ -127,10 +137,10 @@ fn all_shown(
     received: &[u64],
     difference: Difference,
     others: &[u64],
-) -> Result<Vec<AlsoShown>, AllocError>
+) -> Result<OthersShown, AllocError>
     requires { AreOf sheet.now.recording.now tap.now }
-    ensures { IfOk result (λ also. map also_seen also.items
-        ≡ map (also_at sheet.now.recording.now sheet.now.lines.now tap.now.place numbers.now
+    ensures { IfOk result (λ also. others_seen also
+        ≡ told_of (lines_at sheet.now.recording.now sheet.now.lines.now tap.now.place numbers.now
         received.now difference) others.now) }
 {
     match difference {
@@ -139,37 +149,71 @@ fn all_shown(
     }
 }
 
-/// The entries at these positions, each with its line.
+/// The entries at these positions, each as it stands in the stream.
 pub(crate) fn entries_also(
     alloc: Global,
     sheet: &Sheet<'_, '_>,
     positions: &[u64],
-) -> Result<Vec<AlsoShown>, AllocError>
-    ensures { IfOk result (λ also. map also_seen also.items
-        ≡ map (entry_also sheet.now.recording.now sheet.now.lines.now) positions.now) }
+) -> Result<OthersShown, AllocError>
+    ensures { IfOk result (λ also. others_seen also
+        ≡ told_of (entry_lines sheet.now.recording.now sheet.now.lines.now) positions.now) }
 {
-    let mut also = Vec::new(alloc);
-    for position in positions {
-        let lines = entry_lines(alloc, sheet, *position)?;
-        also.push(AlsoShown {
-            position: *position,
-            lines,
-        })?;
+    let entries = ranges_of(alloc, positions, 100)?;
+    let mut ranges = Vec::new(alloc);
+    for range in &entries.found {
+        let first = entry_lines(alloc, sheet, range.first)?;
+        let last = entry_lines(alloc, sheet, range.last)?;
+        ranges.push(range_shown(*range, first, &last)?)?;
     }
-    Ok(also)
+    Ok(OthersShown {
+        ranges,
+        left: entries.left,
+    })
+}
+
+/// The range, where these are the lines of its first entry and of its last one.
+fn range_shown(range: Range, first: Vec<u64>, last: &[u64]) -> Result<AlsoShown, AllocError>
+    ensures { IfOk result (λ also. also_seen also
+        ≡ range_shown (range_seen range) first.items last.now) }
+{
+    if range.first == range.last {
+        return Ok(AlsoShown {
+            position: range.first,
+            to: range.last,
+            lines: first,
+        });
+    }
+    let lines = end_lines(first, last)?;
+    Ok(AlsoShown {
+        position: range.first,
+        to: range.last,
+        lines,
+    })
+}
+
+/// The first of the former lines, and the last of the latter.
+fn end_lines(first: Vec<u64>, last: &[u64]) -> Result<Vec<u64>, AllocError>
+    ensures { IfOk result (λ lines. lines.items ≡ end_lines first.items last.now) }
+{
+    let mut lines = first;
+    lines.truncate(1);
+    if let Some(line) = last.last() {
+        lines.push(*line)?;
+    }
+    Ok(lines)
 }
 
 /// The line of the entry.
 fn entry_lines(alloc: Global, sheet: &Sheet<'_, '_>, position: u64) -> Result<Vec<u64>, AllocError>
     ensures { IfOk result (λ lines. lines.items
-        ≡ line_of (stream_row sheet.now.recording.now sheet.now.lines.now position Entry)) }
+        ≡ entry_lines sheet.now.recording.now sheet.now.lines.now position) }
 {
     let mut lines = Vec::new(alloc);
     push_line(&mut lines, sheet.stream_row(position, Role::Entry))?;
     Ok(lines)
 }
 
-/// Those of them that came, each with the lines of all its frames, where these are the positions of all frames.
+/// The entries at these positions, each as it came, where these are the positions of all frames.
 fn frames_also(
     alloc: Global,
     sheet: &Sheet<'_, '_>,
@@ -177,21 +221,23 @@ fn frames_also(
     numbers: &[usize],
     received: &[u64],
     positions: &[u64],
-) -> Result<Vec<AlsoShown>, AllocError>
+) -> Result<OthersShown, AllocError>
     requires { AreOf sheet.now.recording.now tap.now }
-    ensures { IfOk result (λ also. map also_seen also.items
-        ≡ map (frames_also sheet.now.recording.now sheet.now.lines.now tap.now.place numbers.now
+    ensures { IfOk result (λ also. others_seen also
+        ≡ told_of (got_lines sheet.now.recording.now sheet.now.lines.now tap.now.place numbers.now
         received.now) positions.now) }
 {
-    let mut also = Vec::new(alloc);
-    for position in positions {
-        let lines = frame_lines(alloc, sheet, tap, numbers, received, *position)?;
-        also.push(AlsoShown {
-            position: *position,
-            lines,
-        })?;
+    let entries = ranges_of(alloc, positions, 100)?;
+    let mut ranges = Vec::new(alloc);
+    for range in &entries.found {
+        let first = frame_lines(alloc, sheet, tap, numbers, received, range.first)?;
+        let last = frame_lines(alloc, sheet, tap, numbers, received, range.last)?;
+        ranges.push(range_shown(*range, first, &last)?)?;
     }
-    Ok(also)
+    Ok(OthersShown {
+        ranges,
+        left: entries.left,
+    })
 }
 
 /// The lines of all frames of the position.
@@ -205,8 +251,8 @@ fn frame_lines(
 ) -> Result<Vec<u64>, AllocError>
     requires { AreOf sheet.now.recording.now tap.now }
     ensures { IfOk result (λ lines. lines.items
-        ≡ frame_lines sheet.now.recording.now sheet.now.lines.now tap.now.place numbers.now position
-        0 received.now) }
+        ≡ got_lines sheet.now.recording.now sheet.now.lines.now tap.now.place numbers.now
+        received.now position) }
 {
     let mut lines = Vec::new(alloc);
     for (frame, other) in received.iter().enumerate() {

@@ -32,6 +32,7 @@ mod orphan;
 mod others;
 mod outcome;
 mod prepared;
+mod ranges;
 mod replies;
 mod rooms;
 mod tail;
@@ -41,6 +42,6 @@ mod wanted;
 
 pub use order::unordered_of;
 pub use orphan::orphan_in;
-pub use outcome::{AlsoShown, Outcome, outcome_of};
+pub use outcome::{AlsoShown, OthersShown, Outcome, outcome_of};
 pub use prepared::{Prepared, PreparedTap};
 pub use replies::numbers_naming;

@@ -1,26 +1,29 @@
 //! Which other entries have the same fault.
-ghost use Rattle.std.specs.Prelude.{◌≡◌, ◌&&◌, ℕ, List, IfOk, OnOk, cond, filter, nat_eq, true};
+ghost use Rattle.std.specs.Prelude.{◌≡◌, ◌&&◌, ℕ, List, IfOk, OnOk, cond, filter, nat_eq, nat_lt, true};
 ghost use Rattle.std.specs.HashSet as hash;
-ghost use Rattle.aud_findings.specs.Also.{is_also, others};
-ghost use Rattle.aud_findings.specs.Received.{greatest};
-ghost use Rattle.aud_findings.specs.Private.Seen.{AreSeen};
+ghost use Rattle.aud_check.specs.Difference.{IsAscending, has_position};
+ghost use Rattle.aud_findings.specs.Also.{AreAllOf, is_also};
+ghost use Rattle.aud_findings.specs.Private.Seen.{AreSeen, is_also_by};
 
-use crate::account::greatest;
 use aud_check::Difference;
 use std::alloc::{AllocError, Global};
 use std::collections::HashSet;
 use std::hash::RandomState;
 
-/// The positions that were received, and those of them that were received again.
+/// Positions: all that stand in a list, those that stand there again, and those that stand there too late, after one that
+/// comes after them.
 #[derive(Drop)]
 pub(crate) struct Seen {
     pub once: HashSet<u64, RandomState>,
     pub twice: HashSet<u64, RandomState>,
+    pub late: HashSet<u64, RandomState>,
+    /// The greatest of them, 0 where there are none.
+    pub last: u64,
 }
 
-/// The first hundred of those due that have the fault of the difference too, ascending, but for the one that it is
-/// about: of one that came twice those that came twice, of one that was lost those that were passed over; none of
-/// others. Positions are hashed with these keys.
+/// All positions that have the fault of the difference too, ascending, but for the one that it is about: of one that
+/// wasn't due those that were received and weren't due; of one that came twice, too late or never those due that did so
+/// too. Positions are hashed with these keys.
 pub(crate) fn others(
     alloc: Global,
     keys: RandomState,
@@ -28,48 +31,85 @@ pub(crate) fn others(
     due: &[u64],
     difference: Difference,
 ) -> Result<Vec<u64>, AllocError>
-    ensures { IfOk result (λ found. found.items ≡ others received.now due.now difference) }
+    ensures { IsAscending due.now → IfOk result (λ found.
+        AreAllOf (is_also received.now due.now difference) found.items) }
 {
-    let seen = seen_in(alloc, keys, received)?;
-    let mut found = all_others(alloc, &seen, greatest(received), due, difference)?;
-    found.truncate(100);
-    Ok(found)
+    match difference {
+        Difference::Extra { .. } => undue(alloc, keys, received, due, difference),
+        _ => owed(alloc, keys, received, due, difference),
+    }
 }
 
-/// All of them, where these were received, and this is the greatest of those.
-fn all_others(
+/// Those that were received and have it, against those due: ascending, each once.
+fn undue(
     alloc: Global,
-    seen: &Seen,
-    last: u64,
+    keys: RandomState,
+    received: &[u64],
     due: &[u64],
     difference: Difference,
 ) -> Result<Vec<u64>, AllocError>
-    ensures { (received : List ℕ) → AreSeen received seen.now → last ≡ greatest received
-        → IfOk result (λ found. found.items ≡ filter (is_also received difference) due.now) }
+    ensures { IfOk result (λ found. AreAllOf
+        (λ p. has_position received.now p && is_also_by due.now difference p) found.items) }
+{
+    let seen = seen_in(alloc, keys, due)?;
+    let mut found = all_others(alloc, &seen, received, difference)?;
+    found.sort_unstable();
+    found.dedup();
+    Ok(found)
+}
+
+/// Those that were due and have it, against those that were received.
+fn owed(
+    alloc: Global,
+    keys: RandomState,
+    received: &[u64],
+    due: &[u64],
+    difference: Difference,
+) -> Result<Vec<u64>, AllocError>
+    ensures { IsAscending due.now → IfOk result (λ found. AreAllOf
+        (λ p. has_position due.now p && is_also_by received.now difference p) found.items) }
+{
+    let seen = seen_in(alloc, keys, received)?;
+    all_others(alloc, &seen, due, difference)
+}
+
+/// Those of the positions that have it, against those that were seen.
+fn all_others(
+    alloc: Global,
+    seen: &Seen,
+    positions: &[u64],
+    difference: Difference,
+) -> Result<Vec<u64>, AllocError>
+    ensures { (against : List ℕ) → AreSeen against seen.now
+        → IfOk result (λ found. found.items ≡ filter (is_also_by against difference) positions.now) }
 {
     let mut found = Vec::new(alloc);
-    for position in due {
-        if is_also(seen, last, difference, *position) {
+    for position in positions {
+        if is_also(seen, difference, *position) {
             found.push(*position)?;
         }
     }
     Ok(found)
 }
 
-/// Whether the position has the fault of the difference too, and is another one.
-fn is_also(seen: &Seen, last: u64, difference: Difference, position: u64) -> bool
-    ensures { (received : List ℕ) → AreSeen received seen.now → last ≡ greatest received
-        → result ≡ is_also received difference position }
+/// Whether the position has the fault of the difference too, against those that were seen, and is another one.
+fn is_also(seen: &Seen, difference: Difference, position: u64) -> bool
+    ensures { (against : List ℕ) → AreSeen against seen.now
+        → result ≡ is_also_by against difference position }
 {
     match difference {
+        Difference::Extra {
+            position: first,
+            ..
+        } => !seen.once.contains(&position) && position != first,
         Difference::Doubled {
             position: first,
             ..
         } => seen.twice.contains(&position) && position != first,
+        Difference::Swapped { due, .. } => seen.late.contains(&position) && position != due,
         Difference::Lost { due, .. } => {
-            !seen.once.contains(&position) && position < last && position != due
+            !seen.once.contains(&position) && position < seen.last && position != due
         }
-        _ => false,
     }
 }
 
@@ -79,10 +119,19 @@ fn seen_in(alloc: Global, keys: RandomState, positions: &[u64]) -> Result<Seen, 
 {
     let mut once = HashSet::with_hasher(alloc, keys);
     let mut twice = HashSet::with_hasher(alloc, keys);
+    let mut late = HashSet::with_hasher(alloc, keys);
+    let mut last = 0;
     for position in positions {
         note(&mut once, &mut twice, *position)?;
+        note_late(&mut late, last, *position)?;
+        last = (*position).max(last);
     }
-    Ok(Seen { once, twice })
+    Ok(Seen {
+        once,
+        twice,
+        late,
+        last,
+    })
 }
 
 /// The position was received.
@@ -103,5 +152,21 @@ fn note(
         return Ok(());
     }
     twice.insert(position)?;
+    Ok(())
+}
+
+/// The same after positions of which this is the greatest.
+fn note_late(
+    late: &mut HashSet<u64, RandomState>,
+    last: u64,
+    position: u64,
+) -> Result<(), AllocError>
+    ensures { OnOk result ((q : ℕ)
+        → hash.contains nat_eq late.new q
+        ≡ cond (nat_eq position q && nat_lt q last) true (hash.contains nat_eq late.old q)) }
+{
+    if position < last {
+        late.insert(position)?;
+    }
     Ok(())
 }

@@ -4,7 +4,7 @@ ghost use Rattle.aud_session_facts.specs.Account.{IsAccountOf};
 ghost use Rattle.aud_rows.specs.Seen.{row_seen};
 ghost use Rattle.aud_shown.specs.RowLists.{AreTrueRows};
 ghost use Rattle.aud_findings.specs.Prepared.{IsPreparedOf};
-ghost use Rattle.aud_findings.specs.Also.{IsAlsoShown, also_seen};
+ghost use Rattle.aud_findings.specs.Also.{IsAlsoShown, others_seen};
 ghost use Rattle.aud_findings.specs.Received.{IsReceivedShown};
 ghost use Rattle.aud_findings.specs.ClientShown.{client_of, client_seen};
 ghost use Rattle.aud_findings.specs.Evidence.{IsEvidence};
@@ -20,13 +20,25 @@ use aud_session_facts::Account;
 use aud_verdict::Verdict;
 use std::alloc::{AllocError, Global};
 
-/// Another entry that has the fault too.
+/// Other entries, one after the other in the stream, that have the fault too.
 #[derive(Debug, Drop)]
 pub struct AlsoShown {
-    /// Positions count from 1.
+    /// The first of them; positions count from 1.
     pub position: u64,
-    /// The lines that show it; lines count from 1.
+    /// The last of them.
+    pub to: u64,
+    /// The lines that show it, which count from 1: of one entry all of them; of more the first line of the first entry
+    /// and the last line of the last one.
     pub lines: Vec<u64>,
+}
+
+/// The other entries that have the fault too.
+#[derive(Debug, Drop)]
+pub struct OthersShown {
+    /// The first hundred ranges of them at most, ascending.
+    pub ranges: Vec<AlsoShown>,
+    /// How many entries past these ranges have it.
+    pub left: u64,
 }
 
 /// What is found of a session. Rows and names are borrowed from the sheet alone.
@@ -39,9 +51,10 @@ pub struct Outcome<'r> {
     pub account: Option<Received>,
     /// The records that show the fault.
     pub evidence: Vec<Row<'r>>,
-    /// The other entries with the same fault, at most a hundred: of one that came twice those that came twice too, of
-    /// one that was lost those that were passed over too, of a tail those after its first one. None of other faults.
-    pub also: Vec<AlsoShown>,
+    /// The other entries with the same fault: of one that wasn't due those that came and weren't due either; of one that
+    /// came twice, too late or never those due that did so too; of a tail those after its first one. None of other
+    /// faults.
+    pub also: OthersShown,
 }
 
 /// What is found of the session with this pid, on which this is the verdict and of which this is the account. What was
@@ -67,7 +80,7 @@ pub fn outcome_of<'r, 'a>(
         (is_some account.entry) verdict.now found.account) }
     ensures also { IfOk result (λ found.
         IsAlsoShown sheet.entry.recording.now sheet.entry.lines.now pid.now
-        (is_some account.entry) verdict.now (map also_seen found.also.items)) }
+        (is_some account.entry) verdict.now (others_seen found.also)) }
 {
     let evidence = evidence_of(alloc, &sheet, prepared, pid, verdict, account)?;
     let client = client_of(alloc, &sheet, pid, &evidence)?;

@@ -1,5 +1,5 @@
 //! What shows a session's tail: what was due to it past all that its client received.
-ghost use Rattle.std.specs.Prelude.{◌≡◌, IfOk, IfSome, drop, map, option_map, take};
+ghost use Rattle.std.specs.Prelude.{◌≡◌, IfOk, IfSome, drop, map, option_map};
 ghost use Rattle.aud_node.specs.Stream.{Text};
 ghost use Rattle.aud_cert.specs.Certificate.{turn_at};
 ghost use Rattle.aud_session_facts.specs.Account.{IsAccountOf};
@@ -7,14 +7,14 @@ ghost use Rattle.aud_rows.specs.Seen.{row_seen};
 ghost use Rattle.aud_rows.specs.ClientPlaces.{AreOf};
 ghost use Rattle.aud_rows.specs.TrueRow.{IsTrueRow};
 ghost use Rattle.aud_shown.specs.RowLists.{AreTrueRows};
-ghost use Rattle.aud_findings.specs.Also.{AreTailAlso, also_seen};
+ghost use Rattle.aud_findings.specs.Also.{AreTailAlso, others_seen};
 ghost use Rattle.aud_findings.specs.Received.{tail_positions};
 ghost use Rattle.aud_findings.specs.Tail.{ShowsTail, reached_row, tail_rows};
 ghost use Rattle.aud_findings.specs.Private.Known.{IsShownBy};
 
 use crate::account::greatest;
 use crate::also::{entries_also, frame_row};
-use crate::outcome::AlsoShown;
+use crate::outcome::OthersShown;
 use crate::rooms::reach_of;
 use aud_cert::Turn;
 use aud_rows::{Role, Row, Sheet};
@@ -84,26 +84,25 @@ fn reached_row<'r>(sheet: &Sheet<'r, '_>, turns: &[Turn<'_>], position: u64) -> 
     sheet.node_row(reach.node, reach.number, Role::Reached)
 }
 
-/// The entries of the session's tail after its first one, at most a hundred, each with its line.
+/// The entries of the session's tail after its first one.
 pub(crate) fn tail_also(
     alloc: Global,
     sheet: &Sheet<'_, '_>,
     account: &Account<'_, '_>,
-) -> Result<Vec<AlsoShown>, AllocError>
+) -> Result<OthersShown, AllocError>
     ensures { (pid : Text)
         → IsAccountOf sheet.now.recording.now pid account.now
         → IfOk result (λ also. AreTailAlso sheet.now.recording.now sheet.now.lines.now pid
-        (map also_seen also.items)) }
+        (others_seen also)) }
 {
     let got = positions_received(alloc, account.stays.as_slice())?;
     let tail = tail_in(alloc, got.as_slice(), account.due.as_slice())?;
     entries_also(alloc, sheet, after_first(tail.as_slice()))
 }
 
-/// The positions of the tail where these were received and these due, of many the first hundred and one.
+/// The positions of the tail where these were received and these due.
 fn tail_in(alloc: Global, received: &[u64], due: &[u64]) -> Result<Vec<u64>, AllocError>
-    ensures { IfOk result (λ tail. tail.items
-        ≡ take 101 (tail_positions received.now due.now)) }
+    ensures { IfOk result (λ tail. tail.items ≡ tail_positions received.now due.now) }
 {
     let last = greatest(received);
     let mut tail = Vec::new(alloc);
@@ -112,7 +111,6 @@ fn tail_in(alloc: Global, received: &[u64], due: &[u64]) -> Result<Vec<u64>, All
             tail.push(*position)?;
         }
     }
-    tail.truncate(101);
     Ok(tail)
 }
 

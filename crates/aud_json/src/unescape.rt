@@ -85,7 +85,7 @@ pub fn unescaped<'a>(text: &'a str, room: &'a mut [u8]) -> Option<(&'a str, &'a 
     }
     let (len, quote) = unescape(text, room)?;
     let (front, left) = room.split_at_mut(len);
-    let Ok(found) = str::from_utf8(front) else {
+    let Ok(found) = simdutf8::basic::from_utf8(front) else {
         return None;
     };
     Some((found, &text[quote + 1..], left))

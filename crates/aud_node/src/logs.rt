@@ -20,6 +20,9 @@ use std::hash::RandomState;
 use std::marker::Model;
 use std::thread::Threads;
 
+/// The bytes of memory that the indices of a record may take, while the lists that have it grow.
+const RECORD_ROOM: usize = 128;
+
 /// The taps, borrowed, with what was made once of the stream and of the nodes: seen as the cluster. A tap is named by
 /// its place, which counts from 0 in the order of the headers.
 #[derive(Drop)]
@@ -313,7 +316,6 @@ fn node_in<'a>(
 ) -> Result<Option<NodeLog<'a>>, AllocError>
     ensures { IfOk result (λ node. node ≡ node_in all.now.stream all.now.taps.now place) }
 {
-    make_room(alloc);
     match all.taps.get(place) {
         Some(tap) => node_of(alloc, keys, &all.stream, tap),
         None => Ok(None),
@@ -342,7 +344,10 @@ fn node_of<'a>(
 {
     match &tap.records {
         Records::Stream(_) => Ok(None),
-        Records::Node(recs) => Ok(Some(NodeLog::build(alloc, keys, stream, recs)?)),
+        Records::Node(recs) => {
+            make_room(alloc, recs.len().saturating_mul(RECORD_ROOM));
+            Ok(Some(NodeLog::build(alloc, keys, stream, recs)?))
+        }
         Records::Client(_) => Ok(None),
     }
 }

@@ -17,7 +17,7 @@ use Rattle.aud_input.specs.TapLines.{TapLines, kept_line}
 use Rattle.aud_rows.specs.declared.row.Row.{Row}
 use Rattle.aud_rows.specs.declared.row.Role.{Role}
 use Rattle.aud_rows.specs.Seen.{SaysSeen, RowSeen, Asks, Reply, Got, row_seen}
-use Rattle.aud_rows.specs.NodeSays.{node_says_at}
+use Rattle.aud_rows.specs.NodeSays.{node_says_at, session_at}
 use Rattle.aud_rows.specs.StreamSays.{stream_says_at}
 use Rattle.aud_rows.specs.TrueRow.{RecordSays, IsTrueRow}
 use Rattle.aud_rows.specs.ClientSays.{GivesIn, Gets, ClientSays}
@@ -37,12 +37,12 @@ row_is_true c lines place number role says None e h = tt
 row_is_true c lines place number role says (Some row) e h = go (slice_get c.taps place) refl (kept_line lines place number) refl e
   where
     go : (t : Option Tap) → slice_get c.taps place ≡ t → (l : Option ℕ) → kept_line lines place number ≡ l
-        → Some (row_seen row) ≡ option_and_then (λ (tap : Tap). option_map (λ line. record { line = line; tap = tap.name; says = says; role = role }) l) t
+        → Some (row_seen row) ≡ option_and_then (λ (tap : Tap). option_map (λ line. record { line = line; tap = tap.name; session = session_at tap.records number; says = says; role = role }) l) t
         → IsTrueRow c lines row
     go None et l el e = absurd (cc)
     go (Some tap) et None el e = absurd (cc)
     go (Some tap) et (Some line) el e =
-        let seen : row_seen row ≡ record { line = line; tap = tap.name; says = says; role = role } = cc in
+        let seen : row_seen row ≡ record { line = line; tap = tap.name; session = session_at tap.records number; says = says; role = role } = cc in
         record {
           place = place;
           number = number;
@@ -50,6 +50,7 @@ row_is_true c lines place number role says (Some row) e h = go (slice_get c.taps
           is_there = et;
           is_named = ap (λ (x : RowSeen). x.tap) seen;
           stands = el ∙ ap (λ (x : RowSeen). Some x.line) (sym seen);
+          is_of = ap (λ (x : RowSeen). x.session) seen;
           says_it = subst (RecordSays c.stream tap.records number) (ap (λ (x : RowSeen). x.says) (sym seen)) (h tap et);
         }
 

@@ -1,10 +1,13 @@
--- What the records of a node say.
-use Rattle.std.specs.Prelude.{ℕ, suc, List, Option, slice_get, unwrap_or}
-use Rattle.std.specs.Option.{option_map}
+-- What the records of a node say, and of which session.
+use Rattle.std.specs.Prelude.{ℕ, suc, List, Option, None, slice_get, unwrap_or}
+use Rattle.std.specs.Option.{option_map, option_and_then}
 use Rattle.aud_tap.specs.declared.records.StreamRec.{StreamRec}
 use Rattle.aud_tap.specs.declared.records.NodeRec.{NodeRec}
 use Rattle.aud_tap.specs.declared.records.NodeRec.TheVariants as tap
+use Rattle.aud_tap.specs.declared.taps.Records.{Records}
+use Rattle.aud_tap.specs.declared.taps.Records.TheVariants as records
 use Rattle.aud_node.specs.Stream.{Text, position}
+use Rattle.aud_node.specs.TurnRecords.{pid_of}
 use Rattle.aud_node.specs.Cursors.{cursor_at}
 use Rattle.aud_rows.specs.Seen.{SaysSeen, Start, Take, Takes, Open, Join, Leave, Break, Back, Gone}
 
@@ -27,3 +30,9 @@ node_says stream cursor (tap.Gone pid) = Gone
 -- what the record with this number of a node's log says
 abbrev pub node_says_at : List StreamRec → List NodeRec → ℕ → Option SaysSeen
 node_says_at stream log number = option_map (node_says stream (cursor_at stream log (suc number))) (slice_get log number)
+
+-- the session that the record with this number of a tap speaks of: that whose pid a node's record names
+abbrev pub session_at : Records → ℕ → Option Text
+session_at (records.Node recs) number = option_and_then pid_of (slice_get recs number)
+session_at (records.Stream recs) number = None
+session_at (records.Client recs) number = None

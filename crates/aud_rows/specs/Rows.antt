@@ -9,14 +9,14 @@ use Rattle.aud_node.specs.Cluster.{Cluster, log_at, node_log, stream_place}
 use Rattle.aud_input.specs.TapLines.{TapLines, kept_line}
 use Rattle.aud_rows.specs.declared.row.Role.{Role}
 use Rattle.aud_rows.specs.Seen.{SaysSeen, RowSeen}
-use Rattle.aud_rows.specs.NodeSays.{node_says_at}
+use Rattle.aud_rows.specs.NodeSays.{node_says_at, session_at}
 use Rattle.aud_rows.specs.StreamSays.{stream_says_at}
 
 -- the row of a record that says this and is shown for this: the record with this number in the tap at this place; none
 -- where there is no such tap, or the record's line isn't known
 abbrev pub row_of : Cluster → List TapLines → ℕ → ℕ → Role → SaysSeen → Option RowSeen
 row_of c lines place number role says =
-    option_and_then (λ (tap : Tap). option_map (λ line. record { line = line; tap = tap.name; says = says; role = role }) (kept_line lines place number)) (slice_get c.taps place)
+    option_and_then (λ (tap : Tap). option_map (λ line. record { line = line; tap = tap.name; session = session_at tap.records number; says = says; role = role }) (kept_line lines place number)) (slice_get c.taps place)
 
 -- the number of a record, and what it says
 abbrev pub Said : Type 0

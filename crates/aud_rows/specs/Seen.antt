@@ -1,6 +1,6 @@
 -- Rows, as contracts see them: with their texts as bytes.
 use Rattle.std.specs.Prelude.{ℕ, Option}
-use Rattle.std.specs.Option.{option_map}
+use Rattle.std.specs.Option.{option_copied, option_map}
 use Rattle.aud_node.specs.Stream.{Text}
 use Rattle.aud_rows.specs.declared.row.Row.{Row}
 use Rattle.aud_rows.specs.declared.row.Role.{Role}
@@ -25,10 +25,12 @@ pub data SaysSeen : Type 0 where
   Lost : ℕ → SaysSeen
   NoPacket : ℕ → SaysSeen
 
--- a row: the line that its record stands on, the name of its tap, what it says, and what it is shown for
+-- a row: the line that its record stands on, the name of its tap, the session that it speaks of, what it says, and what
+-- it is shown for
 pub record RowSeen : Type 0 where
   pub line : ℕ
   pub tap : Text
+  pub session : Option Text
   pub says : SaysSeen
   pub role : Role
 
@@ -51,4 +53,4 @@ says_seen (row.Lost conn) = Lost conn
 says_seen (row.NoPacket conn) = NoPacket conn
 
 abbrev pub row_seen : Row → RowSeen
-row_seen r = record { line = r.line; tap = r.tap.now; says = says_seen r.says; role = r.role }
+row_seen r = record { line = r.line; tap = r.tap.now; session = option_copied r.session; says = says_seen r.says; role = r.role }

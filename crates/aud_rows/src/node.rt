@@ -1,13 +1,13 @@
 //! What the records of nodes say.
 ghost use Rattle.std.specs.Prelude.{◌≡◌};
-ghost use Rattle.std.specs.Option.{option_map};
+ghost use Rattle.std.specs.Option.{option_copied, option_map};
 ghost use Rattle.aud_node.specs.Cluster.{node_log};
 ghost use Rattle.aud_rows.specs.Seen.{says_seen};
-ghost use Rattle.aud_rows.specs.NodeSays.{node_says, node_says_at, position_of};
+ghost use Rattle.aud_rows.specs.NodeSays.{node_says, node_says_at, position_of, session_at};
 
 use crate::row::Says;
-use aud_node::{Logs, Stream};
-use aud_tap::{NodeRec, Text};
+use aud_node::{Logs, Stream, pid};
+use aud_tap::{NodeRec, Records, Text};
 
 /// What the record with this number of the node at this place says.
 pub fn node_says_at<'a>(logs: &Logs<'a>, place: usize, number: usize) -> Option<Says<'a>>
@@ -54,6 +54,16 @@ fn node_says<'a>(stream: &Stream<'_>, cursor: u64, rec: &'a NodeRec) -> Says<'a>
             cursor,
         },
         NodeRec::Gone { .. } => Says::Gone,
+    }
+}
+
+/// The session that the record with this number of a tap speaks of; only a node's does.
+pub fn session_of(records: &Records, number: usize) -> Option<&str>
+    ensures { option_copied result ≡ session_at records.now number }
+{
+    match records {
+        Records::Node(recs) => pid(recs.get(number)?),
+        Records::Stream(_) | Records::Client(_) => None,
     }
 }
 

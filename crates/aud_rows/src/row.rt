@@ -7,13 +7,16 @@ pub struct Row<'r> {
     pub line: u64,
     /// The name of its tap, borrowed.
     pub tap: &'r str,
+    /// The pid, borrowed, of the session that the record speaks of, where it is a node's `open`, `join`, `leave`,
+    /// `break`, `back` or `gone`; none of all others. What a client asks for and is answered names it in `says`.
+    pub session: Option<&'r str>,
     /// What the record says.
     pub says: Says<'r>,
     /// What it is shown for.
     pub role: Role,
 }
 
-/// What a record says, in the words of the session that is explained. Positions count from 1, turns from 0; cursors are
+/// What a record says, in the words of the session that it speaks of. Positions count from 1, turns from 0; cursors are
 /// those of the node after the record. Texts are borrowed.
 #[derive(Clone, Copy, Debug, PartialEq, Eq, Drop)]
 pub enum Says<'r> {

@@ -12,7 +12,7 @@ ghost use Rattle.aud_rows.specs.Private.SaidAt.{said_seen};
 use crate::client::{SaidAt, ask_said, frame_said, reply_said};
 use crate::client_places::ClientPlaces;
 use crate::ends::{bad_said, lost_past};
-use crate::node::node_says_at;
+use crate::node::{node_says_at, session_of};
 use crate::row::{Role, Row, Says};
 use crate::stream::entry_says;
 use aud_client::{Recording, Stay, StayPlaces};
@@ -214,6 +214,7 @@ impl<'r, 'a> Sheet<'r, 'a> {
         Some(Row {
             line,
             tap: tap.name.as_str(),
+            session: session_of(&tap.records, number),
             says,
             role,
         })

@@ -2,7 +2,7 @@
 use Rattle.std.specs.Prelude.{◌≡◌, ℕ, ⊤, List, [], ◌∷◌, ◌++◌, Option, Some, None, option_to_list}
 use Rattle.std.specs.Option.{option_map_or}
 use Rattle.aud_sim.specs.declared.act.Act.{Act}
-use Rattle.aud_sim.specs.declared.act.Act.TheVariants.{Emit, Volatile, Take, Connect, ConnectUnanswered, ConnectMisnamed, Join, Leave, Cut, Recover, RecoverLagging, RecoverUnknown, Finish, DropNext, DoubleNext, HoldNext, AlterNext, GarbleNext, LoseLine, RepeatLine}
+use Rattle.aud_sim.specs.declared.act.Act.TheVariants.{Emit, Volatile, Take, Connect, ConnectUnanswered, ConnectMisnamed, Join, Leave, Cut, Recover, RecoverLagging, RecoverUnknown, RecoverUnanswered, Finish, DropNext, DoubleNext, HoldNext, AlterNext, GarbleNext, ShortenNext, LoseLine, RepeatLine}
 use Rattle.aud_schedule.specs.declared.plan.Fault.{Fault}
 use Rattle.aud_schedule.specs.declared.plan.Fault.TheVariants as fault
 use Rattle.aud_schedule.specs.declared.course.Size.{Size}
@@ -16,9 +16,11 @@ pub data Kind : Type 0 where
   Held : Kind
   Altered : Kind
   Garbled : Kind
+  Shortened : Kind
   -- in a recovery
   Lagging : Kind
   Unknown : Kind
+  UnansweredBack : Kind
   -- in the reply to a client that opens a session
   Unanswered : Kind
   Misnamed : Kind
@@ -53,11 +55,13 @@ fault_of (ConnectUnanswered client node) next = Some Unanswered
 fault_of (ConnectMisnamed client node) next = Some Misnamed
 fault_of (RecoverLagging client node) next = Some Lagging
 fault_of (RecoverUnknown client node) next = Some Unknown
+fault_of (RecoverUnanswered client node) next = Some UnansweredBack
 fault_of (DropNext client) next = Some Dropped
 fault_of (DoubleNext client) next = Some Doubled
 fault_of (HoldNext client) next = Some Held
 fault_of (AlterNext client) next = Some Altered
 fault_of (GarbleNext client) next = Some Garbled
+fault_of (ShortenNext client) next = Some Shortened
 fault_of LoseLine next = Some (option_map_or lost_by next LostOther)
 fault_of RepeatLine next = Some (option_map_or repeated_by next RepeatedOther)
 fault_of act next = None
@@ -74,8 +78,10 @@ kind_of fault.Double = Doubled
 kind_of fault.Hold = Held
 kind_of fault.Alter = Altered
 kind_of fault.Garble = Garbled
+kind_of fault.LoseAttachment = Shortened
 kind_of fault.Lag = Lagging
 kind_of fault.UnknownOffset = Unknown
+kind_of fault.CutBeforeReply = UnansweredBack
 kind_of fault.NoReply = Unanswered
 kind_of fault.OtherSid = Misnamed
 kind_of fault.NoOpen = LostOpen
@@ -97,12 +103,14 @@ IsWithin nodes clients (Cut client) = IsUpTo clients client
 IsWithin nodes clients (Recover client node) = IsUpTo clients client × IsUpTo nodes node
 IsWithin nodes clients (RecoverLagging client node) = IsUpTo clients client × IsUpTo nodes node
 IsWithin nodes clients (RecoverUnknown client node) = IsUpTo clients client × IsUpTo nodes node
+IsWithin nodes clients (RecoverUnanswered client node) = IsUpTo clients client × IsUpTo nodes node
 IsWithin nodes clients (Finish client) = IsUpTo clients client
 IsWithin nodes clients (DropNext client) = IsUpTo clients client
 IsWithin nodes clients (DoubleNext client) = IsUpTo clients client
 IsWithin nodes clients (HoldNext client) = IsUpTo clients client
 IsWithin nodes clients (AlterNext client) = IsUpTo clients client
 IsWithin nodes clients (GarbleNext client) = IsUpTo clients client
+IsWithin nodes clients (ShortenNext client) = IsUpTo clients client
 IsWithin nodes clients LoseLine = ⊤
 IsWithin nodes clients RepeatLine = ⊤
 

@@ -17,28 +17,32 @@ by the seed: the same words give the same bytes on every machine. Without a faul
 receives what is due to it.
 
 The faults, each of which comes once; it takes 32 acts or more, and lag 2 nodes or more:
-  drop            an event is not sent
-  double          an event is sent twice
-  hold            an event is sent after the one that follows it
-  alter           an event is sent with another word
-  garble          an event is sent as no packet
-  lag             a session is taken back by a node that has not come as far as its client has
-  unknown-offset  a session is asked for with an offset that no entry has
-  no-reply        a session is opened, and its client is not told
-  other-sid       a session is opened, and its client is told another sid
-  no-open         a node does not record that it opened a session
-  no-join         a node does not record that a session joined a room
-  no-break        a node does not record that a connection broke
-  take-twice      a node records twice that it took an entry";
+  drop              an event is not sent
+  double            an event is sent twice
+  hold              an event is sent after the one that follows it
+  alter             an event is sent with another word
+  garble            an event is sent as no packet
+  lose-attachment   an attachment of an event is not sent
+  lag               a session is taken back by a node that has not come as far as its client has
+  unknown-offset    a session is asked for with an offset that no entry has
+  cut-before-reply  a session is taken back, and the connection breaks before its client is told
+  no-reply          a session is opened, and its client is not told
+  other-sid         a session is opened, and its client is told another sid
+  no-open           a node does not record that it opened a session
+  no-join           a node does not record that a session joined a room
+  no-break          a node does not record that a connection broke
+  take-twice        a node records twice that it took an entry";
 
-const FAULTS: [&str; 13] = [
+const FAULTS: [&str; 15] = [
     "drop",
     "double",
     "hold",
     "alter",
     "garble",
+    "lose-attachment",
     "lag",
     "unknown-offset",
+    "cut-before-reply",
     "no-reply",
     "other-sid",
     "no-open",
@@ -138,8 +142,10 @@ fn fault_named(name: &str) -> Option<Fault> {
         "hold" => Some(Fault::Hold),
         "alter" => Some(Fault::Alter),
         "garble" => Some(Fault::Garble),
+        "lose-attachment" => Some(Fault::LoseAttachment),
         "lag" => Some(Fault::Lag),
         "unknown-offset" => Some(Fault::UnknownOffset),
+        "cut-before-reply" => Some(Fault::CutBeforeReply),
         "no-reply" => Some(Fault::NoReply),
         "other-sid" => Some(Fault::OtherSid),
         "no-open" => Some(Fault::NoOpen),

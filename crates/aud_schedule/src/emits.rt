@@ -38,18 +38,35 @@ fn names(alloc: Global, rooms: u8, session: u32) -> Result<Texts, AllocError> {
     Ok(Texts::new(names))
 }
 
+/// So many attachments.
+fn blobs(course: &mut Course, count: u32) -> Result<Blobs, AllocError>
+    ensures { course.new.size ≡ course.old.size }
+{
+    let mut blobs = Vec::new(course.alloc);
+    for _ in 0..count {
+        let bytes = course.word().to_le_bytes();
+        blobs.push(Bytes::new(bytes.to_vec(course.alloc)?))?;
+    }
+    Ok(Blobs::new(blobs))
+}
+
+/// One attachment, or two.
+fn some_attachments(course: &mut Course) -> Result<Blobs, AllocError>
+    ensures { course.new.size ≡ course.old.size }
+{
+    let count = course.below(2) + 1;
+    blobs(course, count)
+}
+
 /// The attachments of an event: mostly none, else one or two.
 fn attachments(course: &mut Course) -> Result<Blobs, AllocError>
     ensures { course.new.size ≡ course.old.size }
 {
-    let mut blobs = Vec::new(course.alloc);
     if course.is_one_in(8) {
-        for _ in 0..=course.below(2) {
-            let bytes = course.word().to_le_bytes();
-            blobs.push(Bytes::new(bytes.to_vec(course.alloc)?))?;
-        }
+        some_attachments(course)
+    } else {
+        blobs(course, 0)
     }
-    Ok(Blobs::new(blobs))
 }
 
 /// The set of one of the rooms.
@@ -94,8 +111,13 @@ pub fn some_audience(course: &mut Course) -> Audience
     }
 }
 
-/// An event for these comes into the stream.
-pub fn emit(course: &mut Course, audience: Audience) -> Result<Act, AllocError>
+/// An event of this word for these comes into the stream, with these attachments.
+fn emit_of(
+    course: &mut Course,
+    audience: Audience,
+    word: Text,
+    bin: Blobs,
+) -> Result<Act, AllocError>
     ensures size { course.new.size ≡ course.old.size }
     ensures act { IfOk result (IsQuiet course.old.size) }
 {
@@ -103,12 +125,30 @@ pub fn emit(course: &mut Course, audience: Audience) -> Result<Act, AllocError>
     let alloc = course.alloc;
     let rooms = names(alloc, audience.rooms, audience.session)?;
     let except = names(alloc, audience.except_rooms, audience.except_session)?;
-    let word = word(course)?;
-    let bin = attachments(course)?;
     Ok(Act::Emit {
         rooms,
         except,
         word,
         bin,
     })
+}
+
+/// An event for these comes into the stream.
+pub fn emit(course: &mut Course, audience: Audience) -> Result<Act, AllocError>
+    ensures size { course.new.size ≡ course.old.size }
+    ensures act { IfOk result (IsQuiet course.old.size) }
+{
+    let word = word(course)?;
+    let bin = attachments(course)?;
+    emit_of(course, audience, word, bin)
+}
+
+/// An event with attachments for these comes into the stream.
+pub fn emit_binary(course: &mut Course, audience: Audience) -> Result<Act, AllocError>
+    ensures size { course.new.size ≡ course.old.size }
+    ensures act { IfOk result (IsQuiet course.old.size) }
+{
+    let word = word(course)?;
+    let bin = some_attachments(course)?;
+    emit_of(course, audience, word, bin)
 }

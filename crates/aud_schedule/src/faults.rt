@@ -3,12 +3,12 @@ ghost use Rattle.std.specs.Prelude.{◌≡◌, ◌+◌, true, length, [], ◌∷
 ghost use Rattle.aud_schedule.specs.declared.course.Size.{Size};
 ghost use Rattle.aud_schedule.specs.declared.plan.Fault.TheVariants as brought;
 ghost use Rattle.aud_schedule.specs.Size.{IsUpTo};
-ghost use Rattle.aud_schedule.specs.Acts.{Lagging, Unknown, Unanswered, Misnamed, LostOpen, LostJoin, LostBreak, RepeatedTake, fault_of, kind_of, IsWithin, IsQuiet};
+ghost use Rattle.aud_schedule.specs.Acts.{Shortened, Lagging, Unknown, UnansweredBack, Unanswered, Misnamed, LostOpen, LostJoin, LostBreak, RepeatedTake, fault_of, kind_of, IsWithin, IsQuiet};
 ghost use Rattle.aud_schedule.specs.Private.Grown.{is_settled, Grown};
 
 use crate::audience::{ALL, Audience, Place, ROOMS};
 use crate::course::Course;
-use crate::emits::{emit, text};
+use crate::emits::{emit, emit_binary, text};
 use crate::plan::Fault;
 use aud_sim::Act;
 use std::alloc::AllocError;
@@ -123,6 +123,28 @@ fn spoil(
     Ok(())
 }
 
+/// An event with attachments, of which a client is sent one too few, and then one event more; all that came before was
+/// taken, so that the next event that the client is sent is that one.
+fn lose_attachment(
+    course: &mut Course,
+    acts: &mut Vec<Act>,
+    client: usize,
+) -> Result<(), AllocError>
+    requires { IsUpTo course.old.size.clients client }
+    ensures size { course.new.size ≡ course.old.size }
+    ensures acts { OnOk result (Grown course.old.size 25
+        (Shortened ∷ []) acts.old.items acts.new.items) }
+{
+    let node = connect(course, acts, client)?;
+    catch_up(course, acts, node)?;
+    add(acts, Act::ShortenNext { client })?;
+    let act = emit_binary(course, ALL)?;
+    add(acts, act)?;
+    emit_to_all(course, acts)?;
+    catch_up(course, acts, node)?;
+    Ok(())
+}
+
 /// A node but for this one.
 fn other_node(course: &mut Course, node: usize) -> usize
     requires { 2 ≤ course.old.size.nodes }
@@ -168,6 +190,30 @@ fn ask_unknown(course: &mut Course, acts: &mut Vec<Act>, client: usize) -> Resul
     let node = receive(course, acts, client)?;
     add(acts, Act::Cut { client })?;
     add(acts, Act::RecoverUnknown { client, node })?;
+    Ok(())
+}
+
+/// An event that a client receives, its break, and an event that its node takes; then its recovery, of which it is told
+/// nothing before the connection breaks again.
+fn cut_before_reply(
+    course: &mut Course,
+    acts: &mut Vec<Act>,
+    client: usize,
+) -> Result<(), AllocError>
+    requires { IsUpTo course.old.size.clients client }
+    ensures size { course.new.size ≡ course.old.size }
+    ensures acts { OnOk result (Grown course.old.size 25
+        (UnansweredBack ∷ []) acts.old.items acts.new.items) }
+{
+    let node = receive(course, acts, client)?;
+    add(acts, Act::Cut { client })?;
+    emit_to_all(course, acts)?;
+    course.take(node);
+    add(acts, Act::Take { node })?;
+    add(acts, Act::RecoverUnanswered { client, node })?;
+    add(acts, Act::Cut { client })?;
+    let cursor = course.cursor(node);
+    course.move_to(client, Place::Away(cursor));
     Ok(())
 }
 
@@ -295,8 +341,10 @@ pub fn inject(course: &mut Course, acts: &mut Vec<Act>, fault: Fault) -> Result<
         Fault::Hold => spoil(course, acts, client, Act::HoldNext { client }),
         Fault::Alter => spoil(course, acts, client, Act::AlterNext { client }),
         Fault::Garble => spoil(course, acts, client, Act::GarbleNext { client }),
+        Fault::LoseAttachment => lose_attachment(course, acts, client),
         Fault::Lag => lag(course, acts, client),
         Fault::UnknownOffset => ask_unknown(course, acts, client),
+        Fault::CutBeforeReply => cut_before_reply(course, acts, client),
         Fault::NoReply => leave_unanswered(course, acts, client),
         Fault::OtherSid => misname(course, acts, client),
         Fault::NoOpen => lose_open(course, acts, client),

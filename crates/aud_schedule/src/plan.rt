@@ -16,10 +16,14 @@ pub enum Fault {
     Alter,
     /// An event is sent as no packet.
     Garble,
+    /// An event is sent without one of its attachments.
+    LoseAttachment,
     /// A session is taken back by a node that has not come as far as the one that it broke off from.
     Lag,
     /// A session is asked for with an offset that no entry has.
     UnknownOffset,
+    /// A session is taken back, and the connection breaks after its events, before its client is told.
+    CutBeforeReply,
     /// A session is opened, and its client is not told.
     NoReply,
     /// A session is opened, and its client is told another sid.

@@ -2,7 +2,7 @@
 use Rattle.std.specs.Prelude.{◌≡◌, ℕ, List}
 use Rattle.aud_node.specs.Cluster.{Cluster}
 use Rattle.aud_node.specs.Stream.{Text}
-use Rattle.aud_client.specs.Received.{stays_naming, stays_numbered}
+use Rattle.aud_client.specs.Received.{numbers_naming}
 use Rattle.aud_check.specs.declared.difference.Difference.{Difference}
 use Rattle.aud_check.specs.Difference.{IsDifference}
 use Rattle.aud_check.specs.Window.{positions_received}
@@ -14,7 +14,7 @@ use Rattle.aud_shown.specs.DifferenceRows.{difference_rows}
 
 -- these are the numbers of the stays of the client's tap at this place whose reply names the session
 abbrev pub AreNumbersOf : Cluster → Text → ℕ → List ℕ → Type 0
-AreNumbersOf c pid client numbers = stays_numbered (stays_at c client) numbers ≡ stays_naming pid (stays_at c client)
+AreNumbersOf c pid client numbers = numbers ≡ numbers_naming pid (stays_at c client)
 
 -- there is a difference between what the client received of the session with this pid and what was due to it, and these
 -- are the rows of that difference, over the session's turns and its client's stays

@@ -6,7 +6,7 @@ use Rattle.aud_tap.specs.declared.records.ClientRec.TheVariants.{TextIn}
 use Rattle.aud_tap.specs.declared.records.NodeRec.TheVariants as node
 use Rattle.aud_tap.specs.declared.records.Rec.TheVariants as rec
 use Rattle.aud_sim.specs.declared.act.Act.{Act}
-use Rattle.aud_sim.specs.declared.act.Act.TheVariants.{Emit, Volatile, Take, Connect, ConnectUnanswered, ConnectMisnamed, Join, Leave, Cut, Recover, RecoverLagging, RecoverUnknown, Finish, DropNext, DoubleNext, HoldNext, AlterNext, GarbleNext, LoseLine, RepeatLine}
+use Rattle.aud_sim.specs.declared.act.Act.TheVariants.{Emit, Volatile, Take, Connect, ConnectUnanswered, ConnectMisnamed, Join, Leave, Cut, Recover, RecoverLagging, RecoverUnknown, RecoverUnanswered, Finish, DropNext, DoubleNext, HoldNext, AlterNext, GarbleNext, ShortenNext, LoseLine, RepeatLine}
 use Rattle.aud_sim.specs.declared.bundle.LogFault.{LogFault}
 use Rattle.aud_sim.specs.declared.bundle.LogFault.TheVariants as log
 use Rattle.aud_sim.specs.declared.client.At.{At}
@@ -121,9 +121,9 @@ break_cursor (at.Node index) n = n.cursor
 abbrev pub client_back : Client → Session → Client
 client_back client session = record client { connections = next_number client.connections; session = Some session }
 
--- the reply, after the replayed frames
-abbrev pub replied : Sent → Lines
-replied sent = option_map_or (λ (session : Session). with_reply Own sent.client.name session sent.lines) sent.client.session sent.lines
+-- the reply, where there is one, after the replayed frames
+abbrev pub replied : Reply → Sent → Lines
+replied reply sent = option_map_or (λ (session : Session). with_reply reply sent.client.name session sent.lines) sent.client.session sent.lines
 
 -- the entries past the cursor of the break up to the node's that are addressed to the session are replayed
 abbrev pub replay : Asked → List Entry → Client → NodeState → Session → Session → Lines → Sent
@@ -141,8 +141,8 @@ abbrev pub node_recovered : ℕ → Client → NodeState → NodeState
 node_recovered client_index client n = option_map_or (λ (session : Session). node_joined session.number client_index n) client.session n
 
 -- the lines where it is recovered, if there is such a node
-abbrev pub lines_recovered : Asked → List Entry → ℕ → List NodeState → Client → Lines → Lines
-lines_recovered asked entries index nodes client lines = option_map_or (λ n. replied (recovered_on asked entries index n client lines)) (slice_get nodes index) lines
+abbrev pub lines_recovered : Reply → Asked → List Entry → ℕ → List NodeState → Client → Lines → Lines
+lines_recovered reply asked entries index nodes client lines = option_map_or (λ n. replied reply (recovered_on asked entries index n client lines)) (slice_get nodes index) lines
 
 -- the client then
 abbrev pub client_recovered : Asked → List Entry → ℕ → List NodeState → Client → Lines → Client
@@ -152,10 +152,11 @@ client_recovered asked entries index nodes client lines = option_map_or (λ n. (
 abbrev pub nodes_recovered : ℕ → ℕ → Client → List NodeState → List NodeState
 nodes_recovered client_index index client nodes = option_map_or (λ n. slice_set nodes index (node_recovered client_index client n)) (slice_get nodes index) nodes
 
--- the session of the client with an index, which asks so, is recovered on the node with an index
-abbrev pub recovered : Asked → ℕ → ℕ → State → State
-recovered asked client index s = option_map_or (λ c. record s {
-  lines = lines_recovered asked s.entries index s.nodes c s.lines;
+-- the session of the client with an index, which asks so, is recovered on the node with an index, and the client is told
+-- this of it
+abbrev pub recovered : Reply → Asked → ℕ → ℕ → State → State
+recovered reply asked client index s = option_map_or (λ c. record s {
+  lines = lines_recovered reply asked s.entries index s.nodes c s.lines;
   nodes = nodes_recovered client index c s.nodes;
   clients = slice_set s.clients client (client_recovered asked s.entries index s.nodes c s.lines);
 }) (slice_get s.clients client) s
@@ -237,6 +238,7 @@ awaited (DoubleNext client) s = injected_in (client - 1) injected.DoubleNext s
 awaited (HoldNext client) s = injected_in (client - 1) injected.HoldNext s
 awaited (AlterNext client) s = injected_in (client - 1) injected.AlterNext s
 awaited (GarbleNext client) s = injected_in (client - 1) injected.GarbleNext s
+awaited (ShortenNext client) s = injected_in (client - 1) injected.ShortenNext s
 awaited LoseLine s = spoilt log.LoseLine s
 awaited RepeatLine s = spoilt log.RepeatLine s
 awaited act s = s
@@ -252,8 +254,9 @@ after (ConnectMisnamed client n) s = connected OtherSid (client - 1) (n - 1) s
 after (Join client room) s = joined (client - 1) room s
 after (Leave client room) s = parted (client - 1) room s
 after (Cut client) s = cut (client - 1) s
-after (Recover client n) s = recovered LastReceived (client - 1) (n - 1) s
-after (RecoverLagging client n) s = recovered LastReceived (client - 1) (n - 1) s
-after (RecoverUnknown client n) s = recovered Unknown (client - 1) (n - 1) s
+after (Recover client n) s = recovered Own LastReceived (client - 1) (n - 1) s
+after (RecoverLagging client n) s = recovered Own LastReceived (client - 1) (n - 1) s
+after (RecoverUnknown client n) s = recovered Own Unknown (client - 1) (n - 1) s
+after (RecoverUnanswered client n) s = recovered Missing LastReceived (client - 1) (n - 1) s
 after (Finish client) s = finished (client - 1) s
 after act s = awaited act s

@@ -1,11 +1,11 @@
 -- What a client has, and what it is sent. Positions count from 1.
-use Rattle.std.specs.Prelude.{ℕ, ◌+◌, ◌^◌, ◌-◌, min, List, [], ◌∷◌, Bool, false, Option, Some, None, option_map, if◌then◌else◌}
+use Rattle.std.specs.Prelude.{ℕ, ◌+◌, ◌^◌, ◌-◌, ◌==◌, min, List, [], ◌∷◌, length, drop, Bool, false, Option, Some, None, option_map, if◌then◌else◌}
 use Rattle.aud_tap.specs.declared.records.ClientRec.TheVariants.{TextIn, BytesIn}
 use Rattle.aud_tap.specs.declared.records.Rec.TheVariants as rec
 use Rattle.aud_rooms.specs.Rooms.{is_addressed}
 use Rattle.aud_sim.specs.declared.entry.Entry.{Entry}
 use Rattle.aud_sim.specs.declared.client.Injected.{Injected}
-use Rattle.aud_sim.specs.declared.client.Injected.TheVariants.{Nothing, DropNext, DoubleNext, HoldNext, AlterNext, GarbleNext, Holds}
+use Rattle.aud_sim.specs.declared.client.Injected.TheVariants.{Nothing, DropNext, DoubleNext, HoldNext, AlterNext, GarbleNext, ShortenNext, Holds}
 use Rattle.aud_sim.specs.declared.client.Session.{Session}
 use Rattle.aud_sim.specs.declared.client.Client.{Client}
 use Rattle.aud_sim.specs.Bundle.{Lines, with_line}
@@ -35,12 +35,16 @@ with_altered_frame name entry lines = with_frame name entry.altered (attachments
 abbrev pub with_garbled_frame : List ℕ → Entry → Lines → Lines
 with_garbled_frame name entry lines = with_frame name entry.garbled (attachments_of entry.event) lines
 
+-- the frame of an entry, without the first of its attachments
+abbrev pub with_short_frame : List ℕ → Entry → Lines → Lines
+with_short_frame name entry lines = with_frame name entry.frame (drop 1 (attachments_of entry.event)) lines
+
 -- the frame of the entry at a position
 abbrev pub with_held_frame : List ℕ → Option Entry → Lines → Lines
 with_held_frame name None lines = lines
 with_held_frame name (Some entry) lines = with_own_frame name entry lines
 
--- what is written where an entry is sent, by the fault that waits
+-- what is written where an entry is sent, by the fault that its frame meets
 abbrev pub with_sent : List ℕ → List Entry → Injected → Entry → Lines → Lines
 with_sent name entries Nothing entry lines = with_own_frame name entry lines
 with_sent name entries DropNext entry lines = lines
@@ -48,9 +52,15 @@ with_sent name entries DoubleNext entry lines = with_own_frame name entry (with_
 with_sent name entries HoldNext entry lines = lines
 with_sent name entries AlterNext entry lines = with_altered_frame name entry lines
 with_sent name entries GarbleNext entry lines = with_garbled_frame name entry lines
+with_sent name entries ShortenNext entry lines = with_short_frame name entry lines
 with_sent name entries (Holds position) entry lines = with_held_frame name (entry_at entries position) (with_own_frame name entry lines)
 
 -- ---- what is left of the fault, and the last offset received
+
+-- the fault that a frame of so many attachments meets, of the one that waits: of none of them none is lost
+abbrev pub met : Injected → ℕ → Injected
+met ShortenNext count = if count == 0 then Nothing else ShortenNext
+met fault count = fault
 
 -- the fault after a frame of the entry at a position
 abbrev pub fault_after : Injected → ℕ → Injected
@@ -62,6 +72,7 @@ abbrev pub last_after : Injected → ℕ → Option ℕ → Option ℕ
 last_after DropNext position last = last
 last_after HoldNext position last = last
 last_after GarbleNext position last = last
+last_after ShortenNext position last = last
 last_after (Holds held) position last = Some held
 last_after fault position last = Some position
 
@@ -77,20 +88,24 @@ abbrev pub is_for : Entry → Option Session → Bool
 is_for entry None = false
 is_for entry (Some session) = is_addressed entry.event main_namespace session.rooms
 
--- the session after a frame of the entry at a position
+-- the fault that a frame of the entry meets, of the client's
+abbrev pub met_by : Entry → Client → Injected
+met_by entry client = met client.injected (length (attachments_of entry.event))
+
+-- the session after a frame of the entry at a position, which met this fault
 abbrev pub session_sent : Injected → ℕ → Session → Session
 session_sent fault position session = record session { last = last_after fault position session.last }
 
 -- the lines where an entry is sent to a client, if it is addressed to its session
 abbrev pub lines_sent : List Entry → Entry → Client → Lines → Lines
 lines_sent entries entry client lines =
-    if is_for entry client.session then with_sent client.name entries client.injected entry lines else lines
+    if is_for entry client.session then with_sent client.name entries (met_by entry client) entry lines else lines
 
 -- the client then
 abbrev pub client_sent : ℕ → Entry → Client → Client
 client_sent position entry client =
     if is_for entry client.session
-    then record client { injected = fault_after client.injected position; session = option_map (session_sent client.injected position) client.session }
+    then record client { injected = fault_after (met_by entry client) position; session = option_map (session_sent (met_by entry client) position) client.session }
     else client
 
 -- ---- one more

@@ -5,7 +5,7 @@ use Rattle.std.specs.Option.{option_map_or}
 use Rattle.aud_tap.specs.Limits.{max_turn}
 use Rattle.aud_reader.specs.Bundle.{max_entries, max_pids}
 use Rattle.aud_sim.specs.declared.act.Act.{Act}
-use Rattle.aud_sim.specs.declared.act.Act.TheVariants.{Emit, Volatile, Take, Connect, ConnectUnanswered, ConnectMisnamed, Join, Leave, Cut, Recover, RecoverLagging, RecoverUnknown, Finish, DropNext, DoubleNext, HoldNext, AlterNext, GarbleNext, LoseLine, RepeatLine}
+use Rattle.aud_sim.specs.declared.act.Act.TheVariants.{Emit, Volatile, Take, Connect, ConnectUnanswered, ConnectMisnamed, Join, Leave, Cut, Recover, RecoverLagging, RecoverUnknown, RecoverUnanswered, Finish, DropNext, DoubleNext, HoldNext, AlterNext, GarbleNext, ShortenNext, LoseLine, RepeatLine}
 use Rattle.aud_sim.specs.declared.client.At.{At}
 use Rattle.aud_sim.specs.declared.client.At.TheVariants as at
 use Rattle.aud_sim.specs.declared.client.Injected.{Injected}
@@ -99,11 +99,13 @@ can (Cut client) s = is_connected s.clients client
 can (Recover client node) s = can_recover s client node
 can (RecoverLagging client node) s = can_recover_lagging s client node
 can (RecoverUnknown client node) s = can_recover s client node
+can (RecoverUnanswered client node) s = can_recover s client node
 can (Finish client) s = is_connected s.clients client
 can (DropNext client) s = has_no_fault s.clients client
 can (DoubleNext client) s = has_no_fault s.clients client
 can (HoldNext client) s = has_no_fault s.clients client
 can (AlterNext client) s = has_no_fault s.clients client
 can (GarbleNext client) s = has_no_fault s.clients client
+can (ShortenNext client) s = has_no_fault s.clients client
 can LoseLine s = is_sound s.lines.fault
 can RepeatLine s = is_sound s.lines.fault

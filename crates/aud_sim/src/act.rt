@@ -65,6 +65,11 @@ pub enum Act {
         client: usize,
         node: usize,
     },
+    /// As `Recover`, but without a reply from the server.
+    RecoverUnanswered {
+        client: usize,
+        node: usize,
+    },
     /// The session of a connected client ends.
     Finish {
         client: usize,
@@ -87,6 +92,11 @@ pub enum Act {
     },
     /// The next frame of the client that carries an offset is written with `x` in place of Engine.IO's digit.
     GarbleNext {
+        client: usize,
+    },
+    /// The next frame of the client that carries an offset is written without the first of its attachments, if it has
+    /// any.
+    ShortenNext {
         client: usize,
     },
     /// The next line of a node's log is not written.

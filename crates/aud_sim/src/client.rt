@@ -26,11 +26,13 @@ pub enum Injected {
     AlterNext,
     /// The next frame is written as no packet.
     GarbleNext,
+    /// The next frame is written without the first of its attachments.
+    ShortenNext,
     /// The frame of the entry at this position is written after the next one.
     Holds(usize),
 }
 
-/// What a client that opens a session is told of it.
+/// What a client that opens a session, or has it back, is told of it.
 #[derive(Clone, Copy, Drop)]
 pub enum Reply {
     /// Its sid and its pid.

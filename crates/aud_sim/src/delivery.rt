@@ -1,6 +1,7 @@
 //! Sending an entry to the sessions that it is addressed to.
-ghost use Rattle.std.specs.Prelude.{◌≡◌, ◌-◌, OnOk, option_map};
-ghost use Rattle.aud_sim.specs.Clients.{fault_after, last_after, is_for, session_sent, lines_sent, client_sent};
+ghost use Rattle.std.specs.Prelude.{◌≡◌, ◌-◌, OnOk, length, option_map};
+ghost use Rattle.aud_sim.specs.Clients.{met, fault_after, last_after, is_for, session_sent, lines_sent, client_sent};
+ghost use Rattle.aud_sim.specs.Entries.{attachments_of};
 ghost use Rattle.aud_sim.specs.Delivery.{sent_to, replayed, sent_to_guest, sent_to_guests};
 
 use crate::bundle::Bundle;
@@ -10,6 +11,22 @@ use crate::frames::sent;
 use crate::guest::Guest;
 use crate::rooms::is_addressed;
 use std::alloc::AllocError;
+
+/// The fault that a frame of the entry meets, of the one that waits: of no attachments none is lost.
+fn met(fault: Injected, entry: &Entry) -> Injected
+    ensures { result ≡ met fault (length (attachments_of entry.now.event)) }
+{
+    match fault {
+        Injected::ShortenNext => {
+            if entry.attachments().is_empty() {
+                Injected::Nothing
+            } else {
+                fault
+            }
+        }
+        _ => fault,
+    }
+}
 
 /// The fault after a frame of the entry at a position.
 fn fault_after(fault: Injected, position: usize) -> Injected
@@ -26,7 +43,8 @@ fn last_after(fault: Injected, position: usize, last: Option<usize>) -> Option<u
     ensures { result ≡ last_after fault position last }
 {
     match fault {
-        Injected::DropNext | Injected::HoldNext | Injected::GarbleNext => last,
+        Injected::DropNext | Injected::HoldNext | Injected::GarbleNext | Injected::ShortenNext =>
+            last,
         Injected::Holds(held) => Some(held),
         _ => Some(position),
     }
@@ -42,14 +60,13 @@ fn is_for(entry: &Entry, client: &Client) -> bool
     }
 }
 
-/// The client after a frame of the entry at a position.
-fn note(client: &mut Client, position: usize)
+/// The client after a frame of the entry at a position, which met this fault.
+fn note(client: &mut Client, fault: Injected, position: usize)
     ensures { client.new ≡ record client.old {
-      injected = fault_after client.old.injected position;
-      session = option_map (session_sent client.old.injected position) client.old.session;
+      injected = fault_after fault position;
+      session = option_map (session_sent fault position) client.old.session;
     } }
 {
-    let fault = client.injected;
     if let Some(session) = &mut client.session {
         session.last = last_after(fault, position, session.last);
     }
@@ -71,14 +88,9 @@ fn send(
     if !is_for(entry, client) {
         return Ok(());
     }
-    sent(
-        bundle,
-        client.name.as_str(),
-        entries,
-        client.injected,
-        entry,
-    )?;
-    note(client, position);
+    let fault = met(client.injected, entry);
+    sent(bundle, client.name.as_str(), entries, fault, entry)?;
+    note(client, fault, position);
     Ok(())
 }
 

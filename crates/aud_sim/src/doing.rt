@@ -140,15 +140,16 @@ fn connect(
     Ok(())
 }
 
-/// The session of a client, which asks so, is recovered on a node, both by number.
+/// The session of a client, which asks so, is recovered on a node, both by number, and the client is told this of it.
 fn recover(
     cluster: &mut Cluster,
+    reply: Reply,
     asked: Asked,
     client: usize,
     node: usize,
 ) -> Result<(), AllocError>
     ensures { OnOk result (seen cluster.new
-        ≡ recovered asked (client - 1) (node - 1) (seen cluster.old)) }
+        ≡ recovered reply asked (client - 1) (node - 1) (seen cluster.old)) }
 {
     let Cluster {
         bundle,
@@ -159,7 +160,7 @@ fn recover(
     } = cluster;
     let (client, node) = (index(client), index(node));
     match clients.get_mut(client) {
-        Some(who) => recover_on(bundle, asked, entries, who, client, nodes, node),
+        Some(who) => recover_on(bundle, reply, asked, entries, who, client, nodes, node),
         None => Ok(()),
     }
 }
@@ -262,6 +263,7 @@ fn await_fault(cluster: &mut Cluster, act: &Act)
         Act::HoldNext { client } => inject(cluster, index(*client), Injected::HoldNext),
         Act::AlterNext { client } => inject(cluster, index(*client), Injected::AlterNext),
         Act::GarbleNext { client } => inject(cluster, index(*client), Injected::GarbleNext),
+        Act::ShortenNext { client } => inject(cluster, index(*client), Injected::ShortenNext),
         Act::LoseLine => cluster.bundle.spoil(LogFault::LoseLine),
         Act::RepeatLine => cluster.bundle.spoil(LogFault::RepeatLine),
         _ => {}
@@ -294,11 +296,18 @@ pub fn perform(cluster: &mut Cluster, act: &Act) -> Result<(), AllocError>
         Act::Join { client, room } => join(cluster, index(*client), room.as_str()),
         Act::Leave { client, room } => leave(cluster, index(*client), room.as_str()),
         Act::Cut { client } => cut(cluster, index(*client)),
-        Act::Recover { client, node } => recover(cluster, Asked::LastReceived, *client, *node),
-        Act::RecoverLagging { client, node } => {
-            recover(cluster, Asked::LastReceived, *client, *node)
+        Act::Recover { client, node } => {
+            recover(cluster, Reply::Own, Asked::LastReceived, *client, *node)
         }
-        Act::RecoverUnknown { client, node } => recover(cluster, Asked::Unknown, *client, *node),
+        Act::RecoverLagging { client, node } => {
+            recover(cluster, Reply::Own, Asked::LastReceived, *client, *node)
+        }
+        Act::RecoverUnknown { client, node } => {
+            recover(cluster, Reply::Own, Asked::Unknown, *client, *node)
+        }
+        Act::RecoverUnanswered { client, node } => {
+            recover(cluster, Reply::Missing, Asked::LastReceived, *client, *node)
+        }
         Act::Finish { client } => finish(cluster, index(*client)),
         _ => {
             await_fault(cluster, act);

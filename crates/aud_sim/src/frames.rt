@@ -1,6 +1,6 @@
 //! What is written where a client is sent an entry.
-ghost use Rattle.std.specs.Prelude.{◌≡◌, OnOk};
-ghost use Rattle.aud_sim.specs.Clients.{with_attachments, with_frame, with_own_frame, with_altered_frame, with_garbled_frame, with_held_frame, with_sent};
+ghost use Rattle.std.specs.Prelude.{◌≡◌, OnOk, drop};
+ghost use Rattle.aud_sim.specs.Clients.{with_attachments, with_frame, with_own_frame, with_altered_frame, with_garbled_frame, with_short_frame, with_held_frame, with_sent};
 ghost use Rattle.aud_sim.specs.Entries.{entry_at};
 
 use crate::bundle::Bundle;
@@ -48,6 +48,23 @@ fn garbled_frame(bundle: &mut Bundle, name: &str, entry: &Entry) -> Result<(), A
     frame(bundle, name, entry.garbled.as_str(), entry.attachments())
 }
 
+/// The attachments but for the first.
+fn without_first(bin: &[Bytes]) -> &[Bytes]
+    ensures { result.now ≡ drop 1 bin.now }
+{
+    match bin.split_first() {
+        Some((_, rest)) => rest,
+        None => &[],
+    }
+}
+
+fn short_frame(bundle: &mut Bundle, name: &str, entry: &Entry) -> Result<(), AllocError>
+    ensures { OnOk result (bundle.new ≡ with_short_frame name.now entry.now bundle.old) }
+{
+    let bin = without_first(entry.attachments());
+    frame(bundle, name, entry.frame.as_str(), bin)
+}
+
 /// The frame that was held, of the entry at a position.
 fn held_frame(
     bundle: &mut Bundle,
@@ -64,7 +81,7 @@ fn held_frame(
     }
 }
 
-/// What is written where an entry is sent to a client, by the fault that waits.
+/// What is written where an entry is sent to a client, by the fault that its frame meets.
 pub fn sent(
     bundle: &mut Bundle,
     name: &str,
@@ -83,6 +100,7 @@ pub fn sent(
         }
         Injected::AlterNext => altered_frame(bundle, name, entry),
         Injected::GarbleNext => garbled_frame(bundle, name, entry),
+        Injected::ShortenNext => short_frame(bundle, name, entry),
         Injected::Holds(position) => {
             own_frame(bundle, name, entry)?;
             held_frame(bundle, name, entries, position)

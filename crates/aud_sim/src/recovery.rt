@@ -65,19 +65,19 @@ fn break_cursor(at: At, node: &Node) -> usize
     }
 }
 
-/// The reply to a client that has its session back.
-fn answer(bundle: &mut Bundle, client: &Client) -> Result<(), AllocError>
+/// What a client that has its session back is told of it.
+fn answer(bundle: &mut Bundle, told: Reply, client: &Client) -> Result<(), AllocError>
     ensures { OnOk result (bundle.new
-        ≡ replied (record { lines = bundle.old; client = client.now })) }
+        ≡ replied told (record { lines = bundle.old; client = client.now })) }
 {
     match &client.session {
-        Some(session) => reply(bundle, Reply::Own, client.name.as_str(), session),
+        Some(session) => reply(bundle, told, client.name.as_str(), session),
         None => Ok(()),
     }
 }
 
 /// The session of a client, given apart, is recovered on a node: it is sent the entries past the cursor of the break up
-/// to that of the node that are addressed to it, and then the reply.
+/// to that of the node that are addressed to it.
 fn recover(
     bundle: &mut Bundle,
     asked: Asked,
@@ -89,8 +89,8 @@ fn recover(
     node_index: usize,
 ) -> Result<(), AllocError>
     ensures lines { OnOk result (bundle.new
-        ≡ replied (replay asked entries.now client.old node.old session
-        (session_back node_index session) bundle.old)) }
+        ≡ (replay asked entries.now client.old node.old session
+        (session_back node_index session) bundle.old).lines) }
     ensures client { OnOk result (client.new
         ≡ (replay asked entries.now client.old node.old session
         (session_back node_index session) bundle.old).client) }
@@ -103,7 +103,6 @@ fn recover(
     write_asking(bundle, asked, client, node, &session)?;
     client.session = Some(session);
     delivery::replay(bundle, entries, from, node.cursor, client)?;
-    answer(bundle, client)?;
     arrive(node, number, client_index)
 }
 
@@ -118,7 +117,7 @@ fn recover_session(
     index: usize,
 ) -> Result<(), AllocError>
     ensures lines { OnOk result (bundle.new
-        ≡ replied (recovered_on asked entries.now index node.old client.old bundle.old)) }
+        ≡ (recovered_on asked entries.now index node.old client.old bundle.old).lines) }
     ensures client { OnOk result (client.new
         ≡ (recovered_on asked entries.now index node.old client.old bundle.old).client) }
     ensures node { OnOk result (node.new ≡ node_recovered client_index client.old node.old) }
@@ -138,9 +137,10 @@ fn recover_session(
     }
 }
 
-/// The session of a client is recovered on the node with an index, if there is one.
+/// The session of a client is recovered on the node with an index, if there is one, and the client is told this of it.
 pub fn recover_on(
     bundle: &mut Bundle,
+    told: Reply,
     asked: Asked,
     entries: &[Entry],
     client: &mut Client,
@@ -149,14 +149,17 @@ pub fn recover_on(
     index: usize,
 ) -> Result<(), AllocError>
     ensures lines { OnOk result (bundle.new
-        ≡ lines_recovered asked entries.now index nodes.old.items client.old bundle.old) }
+        ≡ lines_recovered told asked entries.now index nodes.old.items client.old bundle.old) }
     ensures client { OnOk result (client.new
         ≡ client_recovered asked entries.now index nodes.old.items client.old bundle.old) }
     ensures nodes { OnOk result (nodes.new.items
         ≡ nodes_recovered client_index index client.old nodes.old.items) }
 {
     match nodes.get_mut(index) {
-        Some(node) => recover_session(bundle, asked, entries, client, client_index, node, index),
+        Some(node) => {
+            recover_session(bundle, asked, entries, client, client_index, node, index)?;
+            answer(bundle, told, client)
+        }
         None => Ok(()),
     }
 }

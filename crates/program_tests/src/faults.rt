@@ -1,6 +1,6 @@
 //! Injected faults, and acts that are not possible.
 
-pub static FAULTS: [&str; 47] = [
+pub static FAULTS: [&str; 58] = [
     r#"1 1 c1@1 j1:r e:hi:r e:ho:r t1 t1
 yes p1 got=2 tail=0 turns=1
 sessions=1 yes=1 no=0
@@ -86,6 +86,35 @@ sessions=1 yes=0 no=1
     r#"1 1 c1@1 e:a:::2 e:b:::1 garble1 t1 t1
 no p1 FRAME
 sessions=1 yes=0 no=1
+"#,
+    // a frame without the first of its attachments, live and in a replay: what comes next is no packet, of all sessions
+    // of the client, and of no other's; where nothing comes on the connection, the frame never did; and where a frame has
+    // no attachments, none is lost
+    r#"1 1 c1@1 e:a:::2 e:b short1 t1 t1
+no p1 FRAME
+sessions=1 yes=0 no=1
+"#,
+    r#"1 1 c1@1 e:a:::1 e:b:::1 short1 t1 t1
+no p1 FRAME
+sessions=1 yes=0 no=1
+"#,
+    r#"2 1 c1@1 e:a t1 short1 x1 e:b:::1 t2 t2 r1@2
+no p1 FRAME
+sessions=1 yes=0 no=1
+"#,
+    r#"1 2 c1@1 c2@1 e:a:::1 e:b short1 t1 t1 f1 c1@1
+no p1 FRAME
+yes p2 got=2 tail=0 turns=1
+no p3 FRAME
+sessions=3 yes=1 no=2
+"#,
+    r#"1 1 c1@1 e:a:::1 short1 t1 x1
+yes p1 got=0 tail=1 turns=1
+sessions=1 yes=1 no=0
+"#,
+    r#"1 1 c1@1 e:a e:b:::1 short1 t1 t1 x1 r1@1
+yes p1 got=2 tail=0 turns=2
+sessions=1 yes=1 no=0
 "#,
     // a line of a node's log that is lost: `open`, `join`, `leave`, `break`, `back`, `take`, `gone`
     r#"1 1 lose c1@1 e:a t1
@@ -181,6 +210,30 @@ sessions=2 yes=0 no=2
 no p1 ORPHAN
 sessions=1 yes=0 no=1
 "#,
+    // a recovery without a reply: with events that are sent again, and with those after it, which are of no known session
+    // for all sessions of the client, and for no other's; and without events
+    r#"1 1 c1@1 e:a t1 x1 e:b t1 n1@1 x1
+no p1 ORPHAN
+sessions=1 yes=0 no=1
+"#,
+    r#"2 1 c1@1 e:a t1 x1 t2 n1@2 e:b t2
+no p1 ORPHAN
+sessions=1 yes=0 no=1
+"#,
+    r#"1 2 c1@1 c2@1 e:a t1 x1 e:b t1 n1@1 x1 r1@1 f1 c1@1
+no p1 ORPHAN
+yes p2 got=2 tail=0 turns=1
+no p3 ORPHAN
+sessions=3 yes=1 no=2
+"#,
+    r#"1 1 c1@1 e:a t1 x1 n1@1
+yes p1 got=1 tail=0 turns=2
+sessions=1 yes=1 no=0
+"#,
+    r#"1 1 c1@1 e:a t1 x1 n1@1 x1 e:b t1 r1@1
+yes p1 got=2 tail=0 turns=3
+sessions=1 yes=1 no=0
+"#,
     // a reply with another sid, and after it one with the session's own
     r#"1 1 m1@1 e:a t1
 no p1 NAMES
@@ -206,7 +259,7 @@ sessions=1 yes=0 no=1
 ];
 
 /// Schedules of two nodes and two clients, and the number of the act that is not possible.
-pub static NOT_POSSIBLE: [&str; 46] = [
+pub static NOT_POSSIBLE: [&str; 53] = [
     "c1@1 j1:r e:hi:r t1 x1 r1@2 t2 -> 5",
     "t1 -> 0",
     "e:a t1 t1 -> 2",
@@ -249,6 +302,13 @@ pub static NOT_POSSIBLE: [&str; 46] = [
     "garble1 drop1 -> 1",
     "hold1 garble1 -> 1",
     "garble3 -> 0",
+    "n1@1 -> 0",
+    "c1@1 e:a t1 n1@1 -> 3",
+    "c1@1 e:a t1 x1 n1@2 -> 4",
+    "c1@1 e:a t1 x1 n1@1 r1@1 -> 5",
+    "c1@1 e:a:::1 short1 t1 x1 r1@1 -> 5",
+    "short1 garble1 -> 1",
+    "short3 -> 0",
     "lose lose -> 1",
     "repeat lose -> 1",
     "lose e:a lose -> 2",

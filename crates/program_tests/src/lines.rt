@@ -1,6 +1,6 @@
 //! Bundles of simulated clusters, line by line.
 
-pub static BUNDLES: [&str; 4] = [
+pub static BUNDLES: [&str; 5] = [
     // A recovery on another node: the replayed frame stands before the reply.
     r#"2 1 c1@1 j1:r e:hi:r t1 x1 t2 e:ho:r:q t2 r1@2 l1:r v1:v f1
 st {"k":"tap","of":"stream","v":1}
@@ -106,5 +106,37 @@ c1 {"c":4,"k":"conn"}
 c1 {"k":"out","t":"40{\"pid\":\"p2\",\"offset\":\"2-0\"}"}
 n1 {"k":"back","pid":"p2","turn":1}
 c1 {"k":"in","t":"40{\"sid\":\"s2\",\"pid\":\"p2\"}"}
+"#,
+    // A recovery without a reply, another one that has it, and a frame without the first of its attachments.
+    r#"1 1 c1@1 e:a t1 x1 e:b:::1 t1 n1@1 x1 r1@1 e:c:::2 short1 t1
+st {"k":"tap","of":"stream","v":1}
+n1 {"k":"tap","of":"node","v":1}
+c1 {"k":"tap","of":"client","v":1}
+n1 {"k":"start","off":null}
+n1 {"k":"open","nsp":"/","pid":"p1","sid":"s1"}
+c1 {"c":1,"k":"conn"}
+c1 {"k":"in","t":"40{\"sid\":\"s1\",\"pid\":\"p1\"}"}
+st {"k":"ev","nsp":"/","off":"1-0","text":"2[\"a\",\"1-0\"]"}
+n1 {"k":"take","off":"1-0"}
+c1 {"k":"in","t":"42[\"a\",\"1-0\"]"}
+n1 {"k":"break","pid":"p1","turn":0}
+c1 {"k":"lost"}
+st {"bin":["AA=="],"k":"ev","nsp":"/","off":"2-0","text":"51-[\"b\",{\"_placeholder\":true,\"num\":0},\"2-0\"]"}
+n1 {"k":"take","off":"2-0"}
+c1 {"c":2,"k":"conn"}
+c1 {"k":"out","t":"40{\"pid\":\"p1\",\"offset\":\"1-0\"}"}
+n1 {"k":"back","pid":"p1","turn":1}
+c1 {"k":"in","t":"451-[\"b\",{\"_placeholder\":true,\"num\":0},\"2-0\"]"}
+c1 {"b":"AA==","k":"inb"}
+n1 {"k":"break","pid":"p1","turn":1}
+c1 {"k":"lost"}
+c1 {"c":3,"k":"conn"}
+c1 {"k":"out","t":"40{\"pid\":\"p1\",\"offset\":\"2-0\"}"}
+n1 {"k":"back","pid":"p1","turn":2}
+c1 {"k":"in","t":"40{\"sid\":\"s1\",\"pid\":\"p1\"}"}
+st {"bin":["AA==","AQ=="],"k":"ev","nsp":"/","off":"3-0","text":"52-[\"c\",{\"_placeholder\":true,\"num\":0},{\"_placeholder\":true,\"num\":1},\"3-0\"]"}
+n1 {"k":"take","off":"3-0"}
+c1 {"k":"in","t":"452-[\"c\",{\"_placeholder\":true,\"num\":0},{\"_placeholder\":true,\"num\":1},\"3-0\"]"}
+c1 {"b":"AQ==","k":"inb"}
 "#,
 ];

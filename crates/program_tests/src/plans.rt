@@ -1,5 +1,5 @@
 //! The bundles of plans: what an audit answers on them, and that a plan has one.
-use crate::case::{AUDIT, run_over};
+use crate::case::{AUDIT, cut, run_over};
 use aud_app::Options;
 use aud_app::Status::{self, AllYes, NoSession, SomeNo};
 use aud_schedule::{Fault, Plan, simulated};
@@ -20,7 +20,7 @@ const WITH_ROOM: &[Size] = &[(2, 1, 32), (1, 4, 120), (3, 2, 32), (3, 6, 200)];
 const OF_MORE_NODES: &[Size] = &[(2, 1, 32), (3, 2, 32), (3, 6, 200)];
 
 /// A fault, sizes, how many seeds, and how an audit ends and what its report has in it.
-static OUTCOMES: [(Option<Fault>, &[Size], u64, Status, &str); 15] = [
+static OUTCOMES: [(Option<Fault>, &[Size], u64, Status, &str); 17] = [
     (None, NOTHING, 1, NoSession, "sessions=0 "),
     (None, WITH_ROOM, 5, AllYes, " no=0\n"),
     (Some(Fault::Drop), WITH_ROOM, 2, SomeNo, " LOST "),
@@ -28,8 +28,22 @@ static OUTCOMES: [(Option<Fault>, &[Size], u64, Status, &str); 15] = [
     (Some(Fault::Hold), WITH_ROOM, 2, SomeNo, " SWAPPED "),
     (Some(Fault::Alter), WITH_ROOM, 2, SomeNo, " CONTENT "),
     (Some(Fault::Garble), WITH_ROOM, 2, SomeNo, " FRAME\n"),
+    (
+        Some(Fault::LoseAttachment),
+        WITH_ROOM,
+        2,
+        SomeNo,
+        " FRAME\n",
+    ),
     (Some(Fault::Lag), OF_MORE_NODES, 2, SomeNo, " DOUBLED "),
     (Some(Fault::UnknownOffset), WITH_ROOM, 2, SomeNo, " WINDOW "),
+    (
+        Some(Fault::CutBeforeReply),
+        WITH_ROOM,
+        2,
+        SomeNo,
+        " ORPHAN\n",
+    ),
     (Some(Fault::NoReply), WITH_ROOM, 2, SomeNo, " CLIENT\n"),
     (Some(Fault::OtherSid), WITH_ROOM, 2, SomeNo, " NAMES\n"),
     (Some(Fault::NoOpen), WITH_ROOM, 2, SomeNo, " NOLOG\n"),
@@ -76,6 +90,71 @@ fn plans_are_audited(rt: HostRuntime) -> Result<(), Fail> {
                     "{plan:?}"
                 );
             }
+        }
+    }
+    Ok(())
+}
+
+/// The faults of all sessions of a client's tap, and the word of each.
+static OF_TAPS: [(Fault, &str); 3] = [
+    (Fault::Garble, "FRAME"),
+    (Fault::LoseAttachment, "FRAME"),
+    (Fault::CutBeforeReply, "ORPHAN"),
+];
+
+/// The name of the client's tap that has a reply with this pid.
+fn tap_of<'a>(alloc: Global, bundle: &'a str, pid: &str) -> Result<&'a str, Fail> {
+    let reply = format!(in alloc; "\\\"pid\\\":\\\"{pid}\\\"}}\"}}")?;
+    for line in bundle.lines() {
+        if line.ends_with(reply.as_str()) {
+            return Ok(cut(line, " ").0);
+        }
+    }
+    Err("no reply")?
+}
+
+/// Whether of the sessions of a report exactly those of one client's tap are answered no, each by this word.
+fn is_of_one_tap(alloc: Global, bundle: &str, report: &str, word: &str) -> Result<bool, Fail> {
+    let mut spoilt = "";
+    for line in report.lines() {
+        if let Some(no) = line.strip_prefix("no ") {
+            let (pid, fault) = cut(no, " ");
+            let tap = tap_of(alloc, bundle, pid)?;
+            if fault != word || !(spoilt.is_empty() || spoilt == tap) {
+                return Ok(false);
+            }
+            spoilt = tap;
+        }
+    }
+    for line in report.lines() {
+        if let Some(yes) = line.strip_prefix("yes ") {
+            if tap_of(alloc, bundle, cut(yes, " ").0)? == spoilt {
+                return Ok(false);
+            }
+        }
+    }
+    Ok(!spoilt.is_empty())
+}
+
+#[test]
+fn faults_of_all_sessions_of_a_tap(rt: HostRuntime) -> Result<(), Fail> {
+    let keys = RandomState::new(&rt)?;
+    for &(fault, word) in &OF_TAPS {
+        for seed in 0..4 {
+            let plan = Plan {
+                nodes: 3,
+                clients: 3,
+                acts: 150,
+                seed,
+                fault: Some(fault),
+            };
+            let bundle = bundle_of(&rt, rt.alloc(), &plan)?;
+            let ran = run_over(&rt, rt.alloc(), keys, AUDIT, bundle.as_slice());
+            let (bundle, report) = (str::from_utf8(&bundle)?, str::from_utf8(&ran.written)?);
+            assert!(rt;
+                is_of_one_tap(rt.alloc(), bundle, report, word)?,
+                "{plan:?}"
+            );
         }
     }
     Ok(())

@@ -7,11 +7,11 @@
 //! | an event that isn't in the stream, to client 1 | `v1:hi` |
 //! | node 1 takes an entry | `t1` |
 //! | client 1 opens a session on node 2; without a reply; with another sid in it | `c1@2`, `u1@2`, `m1@2` |
-//! | client 1 is cut; is recovered on node 1; on a node that isn't so far; with an offset that no entry has; ends |
-//! `x1`, `r1@1`, `g1@1`, `o1@1`, `f1` |
+//! | client 1 is cut; is recovered on node 1; on a node that isn't so far; with an offset that no entry has; without a
+//! reply; ends | `x1`, `r1@1`, `g1@1`, `o1@1`, `n1@1`, `f1` |
 //! | client 1 joins and leaves a room | `j1:r`, `l1:r` |
-//! | a fault for client 1: its next frame dropped, doubled, held, altered, garbled | `drop1`, `double1`, `hold1`,
-//! `alter1`, `garble1` |
+//! | a fault for client 1: its next frame dropped, doubled, held, altered, garbled, without its first attachment |
+//! `drop1`, `double1`, `hold1`, `alter1`, `garble1`, `short1` |
 //! | a fault of the nodes' logs: the next line lost, repeated | `lose`, `repeat` |
 use aud_sim::Act;
 use aud_tap::{Blobs, Bytes, Text, Texts};
@@ -82,12 +82,14 @@ fn act_of(alloc: Global, name: &str, client: usize, node: usize, more: &str) -> 
         "r" => Ok(Act::Recover { client, node }),
         "g" => Ok(Act::RecoverLagging { client, node }),
         "o" => Ok(Act::RecoverUnknown { client, node }),
+        "n" => Ok(Act::RecoverUnanswered { client, node }),
         "f" => Ok(Act::Finish { client }),
         "drop" => Ok(Act::DropNext { client }),
         "double" => Ok(Act::DoubleNext { client }),
         "hold" => Ok(Act::HoldNext { client }),
         "alter" => Ok(Act::AlterNext { client }),
         "garble" => Ok(Act::GarbleNext { client }),
+        "short" => Ok(Act::ShortenNext { client }),
         "lose" => Ok(Act::LoseLine),
         "repeat" => Ok(Act::RepeatLine),
         _ => Err("no act")?,

@@ -78,14 +78,16 @@ fn simulate_arguments_that_are_accepted(rt: HostRuntime) -> Result<(), Fail> {
 }
 
 /// The names of the faults.
-static NAMES: [(&str, Fault); 13] = [
+static NAMES: [(&str, Fault); 15] = [
     ("drop", Fault::Drop),
     ("double", Fault::Double),
     ("hold", Fault::Hold),
     ("alter", Fault::Alter),
     ("garble", Fault::Garble),
+    ("lose-attachment", Fault::LoseAttachment),
     ("lag", Fault::Lag),
     ("unknown-offset", Fault::UnknownOffset),
+    ("cut-before-reply", Fault::CutBeforeReply),
     ("no-reply", Fault::NoReply),
     ("other-sid", Fault::OtherSid),
     ("no-open", Fault::NoOpen),

@@ -6,6 +6,7 @@ ghost use Rattle.aud_explanation.specs.JsonEvent.{happens_word, after_data, from
 
 use crate::event::{ClientEvent, Happens};
 use crate::json_line::value::number_or_null;
+use crate::long::{all_shown, left_out};
 use serde_json::{Map, Value, json, put};
 use std::alloc::{AllocError, Global};
 
@@ -69,7 +70,7 @@ fn event_values(alloc: Global, events: &[ClientEvent]) -> Result<Vec<Value>, All
     Ok(values)
 }
 
-/// Puts what happened to the client.
+/// Puts what happened to the client, as far as it is shown, and how many events are left out.
 #[tactic(auto, unfolding(crate::specs::JsonEvent::with_events))]
 pub(crate) fn put_events(
     alloc: Global,
@@ -79,6 +80,9 @@ pub(crate) fn put_events(
     ensures { OnOk result (members_view members.new.entries
         ≡ with_events events.now (members_view members.old.entries)) }
 {
-    let values = event_values(alloc, events)?;
-    put(members, alloc, "events", Value::Array(values))
+    let shown = all_shown(alloc, events)?;
+    let values = event_values(alloc, shown.as_slice())?;
+    put(members, alloc, "events", Value::Array(values))?;
+    let left = left_out(events) as u64;
+    put(members, alloc, "events_left", Value::from(left))
 }

@@ -4,10 +4,11 @@ ghost use Rattle.std.specs.Option.{option_copied};
 ghost use Rattle.serde_json.specs.View.{view, items_view, members_view};
 ghost use Rattle.aud_cert.specs.Text.{items};
 ghost use Rattle.aud_explanation.specs.JsonValue.{text_or_null};
-ghost use Rattle.aud_explanation.specs.JsonRefused.{missed_data, all_missed_data, reply_data, refused_data, with_refused};
+ghost use Rattle.aud_explanation.specs.JsonRefused.{missed_data, all_missed_data, missed_left_data, reply_data, refused_data, with_refused};
 
 use crate::json_line::row::row_value;
 use crate::json_line::value::text_or_null;
+use crate::long::{all_shown, left_out};
 use crate::refused::{Missed, RefusedRecovery};
 use aud_input::InputFile;
 use aud_rows::Row;
@@ -31,13 +32,26 @@ fn missed_values(alloc: Global, entries: &[Missed<'_>]) -> Result<Vec<Value>, Al
     Ok(values)
 }
 
-/// What was missed, or `null`.
+/// What was missed, as far as it is shown, or `null`.
 fn all_missed_value(alloc: Global, entries: Option<&[Missed<'_>]>) -> Result<Value, AllocError>
     ensures { IfOk result (λ v. view v ≡ all_missed_data (option_copied entries.entry)) }
 {
     match entries {
-        Some(entries) => Ok(Value::Array(missed_values(alloc, entries)?)),
+        Some(entries) => {
+            let shown = all_shown(alloc, entries)?;
+            Ok(Value::Array(missed_values(alloc, shown.as_slice())?))
+        }
         None => Ok(Value::Null),
+    }
+}
+
+/// How many entries are left out, or `null`.
+fn missed_left_value(entries: Option<&[Missed<'_>]>) -> Value
+    ensures { view result ≡ missed_left_data (option_copied entries.entry) }
+{
+    match entries {
+        Some(entries) => Value::from(left_out(entries) as u64),
+        None => Value::Null,
     }
 }
 
@@ -45,57 +59,62 @@ fn all_missed_value(alloc: Global, entries: Option<&[Missed<'_>]>) -> Result<Val
 fn reply_value(
     alloc: Global,
     files: &[InputFile],
+    pid: &str,
     reply: Option<Row<'_>>,
 ) -> Result<Value, AllocError>
-    ensures { IfOk result (λ v. view v ≡ reply_data files.now reply.entry) }
+    ensures { IfOk result (λ v. view v ≡ reply_data files.now pid.now reply.entry) }
 {
     match reply {
-        Some(reply) => row_value(alloc, files, &reply),
+        Some(reply) => row_value(alloc, files, pid, &reply),
         None => Ok(Value::Null),
     }
 }
 
-/// `{"ask":..,"instead":..,"missed":..,"reply":..}`.
+/// `{"ask":..,"instead":..,"missed":..,"missed_left":..,"reply":..}`.
 fn refused_value(
     alloc: Global,
     files: &[InputFile],
+    pid: &str,
     refused: &RefusedRecovery<'_, '_>,
 ) -> Result<Value, AllocError>
-    ensures { IfOk result (λ v. view v ≡ refused_data files.now refused.now) }
+    ensures { IfOk result (λ v. view v ≡ refused_data files.now pid.now refused.now) }
 {
-    let ask = row_value(alloc, files, &refused.ask)?;
+    let ask = row_value(alloc, files, pid, &refused.ask)?;
     let instead = text_or_null(alloc, refused.instead)?;
     let missed = all_missed_value(alloc, refused.missed)?;
-    let reply = reply_value(alloc, files, refused.reply)?;
-    json!(in alloc; {"ask": ask, "instead": instead, "missed": missed, "reply": reply})
+    let missed_left = missed_left_value(refused.missed);
+    let reply = reply_value(alloc, files, pid, refused.reply)?;
+    json!(in alloc; {"ask": ask, "instead": instead, "missed": missed, "missed_left": missed_left, "reply": reply})
 }
 
 fn refused_values(
     alloc: Global,
     files: &[InputFile],
+    pid: &str,
     recoveries: &[RefusedRecovery<'_, '_>],
 ) -> Result<Vec<Value>, AllocError>
     ensures { IfOk result (λ vs. items_view vs.items
-        ≡ items (refused_data files.now) recoveries.now) }
+        ≡ items (refused_data files.now pid.now) recoveries.now) }
 {
     let mut values = Vec::new(alloc);
     for refused in recoveries {
-        values.push(refused_value(alloc, files, refused)?)?;
+        values.push(refused_value(alloc, files, pid, refused)?)?;
     }
     Ok(values)
 }
 
-/// Puts the refused recoveries.
+/// Puts the refused recoveries of the session with this pid.
 #[tactic(auto, unfolding(crate::specs::JsonRefused::with_refused))]
 pub(crate) fn put_refused(
     alloc: Global,
     members: &mut Map<String, Value>,
     files: &[InputFile],
+    pid: &str,
     recoveries: &[RefusedRecovery<'_, '_>],
 ) -> Result<(), AllocError>
     ensures { OnOk result (members_view members.new.entries
-        ≡ with_refused files.now recoveries.now (members_view members.old.entries)) }
+        ≡ with_refused files.now pid.now recoveries.now (members_view members.old.entries)) }
 {
-    let values = refused_values(alloc, files, recoveries)?;
+    let values = refused_values(alloc, files, pid, recoveries)?;
     put(members, alloc, "refused", Value::Array(values))
 }

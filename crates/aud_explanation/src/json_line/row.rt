@@ -6,7 +6,8 @@ ghost use Rattle.aud_explanation.specs.Record.{record_text};
 ghost use Rattle.aud_explanation.specs.JsonRow.{role_word, with_row, row_data, with_evidence};
 
 use crate::json_line::place::put_place;
-use crate::text::push_record;
+use crate::json_line::value::text_or_null;
+use crate::text::{other_session, push_record};
 use aud_input::InputFile;
 use aud_rows::{Role, Row, Says};
 use serde_json::{Map, Value, put};
@@ -39,13 +40,21 @@ fn words(alloc: Global, says: Says<'_>) -> Result<String, AllocError>
     Ok(text)
 }
 
-/// Puts the line, what the record is shown for, what it says, and its tap.
+/// Puts the line, the session, where it isn't the one with this pid, what the record is shown for, what it says, and
+/// its tap.
 #[tactic(auto, unfolding(crate::specs::JsonRow::with_row))]
-fn put_row(alloc: Global, members: &mut Map<String, Value>, row: &Row<'_>) -> Result<(), AllocError>
+fn put_row(
+    alloc: Global,
+    members: &mut Map<String, Value>,
+    pid: &str,
+    row: &Row<'_>,
+) -> Result<(), AllocError>
     ensures { OnOk result (members_view members.new.entries
-        ≡ with_row row.now (members_view members.old.entries)) }
+        ≡ with_row pid.now row.now (members_view members.old.entries)) }
 {
     put(members, alloc, "line", Value::from(row.line))?;
+    let other = other_session(row.session, pid);
+    put(members, alloc, "of", text_or_null(alloc, other)?)?;
     let role = role_word(row.role);
     put(members, alloc, "role", Value::try_from_str(alloc, role)?)?;
     let says = words(alloc, row.says)?;
@@ -53,45 +62,49 @@ fn put_row(alloc: Global, members: &mut Map<String, Value>, row: &Row<'_>) -> Re
     put(members, alloc, "tap", Value::try_from_str(alloc, row.tap)?)
 }
 
-/// `{"file":..,"file_line":..,"line":..,"role":..,"says":..,"tap":..}`.
+/// `{"file":..,"file_line":..,"line":..,"of":..,"role":..,"says":..,"tap":..}`.
 pub(crate) fn row_value(
     alloc: Global,
     files: &[InputFile],
+    pid: &str,
     row: &Row<'_>,
 ) -> Result<Value, AllocError>
-    ensures { IfOk result (λ v. view v ≡ row_data files.now row.now) }
+    ensures { IfOk result (λ v. view v ≡ row_data files.now pid.now row.now) }
 {
     let mut members = Map::new(alloc);
     put_place(alloc, &mut members, files, row.line)?;
-    put_row(alloc, &mut members, row)?;
+    put_row(alloc, &mut members, pid, row)?;
     Ok(Value::Object(members))
 }
 
 fn row_values(
     alloc: Global,
     files: &[InputFile],
+    pid: &str,
     rows: &[Row<'_>],
 ) -> Result<Vec<Value>, AllocError>
-    ensures { IfOk result (λ vs. items_view vs.items ≡ items (row_data files.now) rows.now) }
+    ensures { IfOk result (λ vs. items_view vs.items
+        ≡ items (row_data files.now pid.now) rows.now) }
 {
     let mut values = Vec::new(alloc);
     for row in rows {
-        values.push(row_value(alloc, files, row)?)?;
+        values.push(row_value(alloc, files, pid, row)?)?;
     }
     Ok(values)
 }
 
-/// Puts the rows of the evidence.
+/// Puts the rows of the evidence of the session with this pid.
 #[tactic(auto, unfolding(crate::specs::JsonRow::with_evidence))]
 pub(crate) fn put_evidence(
     alloc: Global,
     members: &mut Map<String, Value>,
     files: &[InputFile],
+    pid: &str,
     rows: &[Row<'_>],
 ) -> Result<(), AllocError>
     ensures { OnOk result (members_view members.new.entries
-        ≡ with_evidence files.now rows.now (members_view members.old.entries)) }
+        ≡ with_evidence files.now pid.now rows.now (members_view members.old.entries)) }
 {
-    let values = row_values(alloc, files, rows)?;
+    let values = row_values(alloc, files, pid, rows)?;
     put(members, alloc, "evidence", Value::Array(values))
 }

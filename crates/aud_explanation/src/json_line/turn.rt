@@ -6,6 +6,7 @@ ghost use Rattle.aud_cert.specs.Text.{items};
 ghost use Rattle.aud_explanation.specs.JsonTurn.{begin_word, end_word, high_at, lines_data, took_data, turn_data, turn_ends, with_turns};
 
 use crate::json_line::value::{number_or_null, numbers};
+use crate::long::{all_shown, left_out};
 use crate::turn::{TurnBegin, TurnEnd, TurnShown};
 use serde_json::{Map, Value, put};
 use std::alloc::{AllocError, Global};
@@ -129,7 +130,7 @@ fn turn_values(alloc: Global, turns: &[TurnShown<'_>]) -> Result<Vec<Value>, All
     Ok(values)
 }
 
-/// Puts the turns.
+/// Puts the turns, as far as they are shown, and how many are left out.
 #[tactic(auto, unfolding(crate::specs::JsonTurn::with_turns))]
 pub(crate) fn put_turns(
     alloc: Global,
@@ -139,6 +140,9 @@ pub(crate) fn put_turns(
     ensures { OnOk result (members_view members.new.entries
         ≡ with_turns turns.now (members_view members.old.entries)) }
 {
-    let values = turn_values(alloc, turns)?;
-    put(members, alloc, "turns", Value::Array(values))
+    let shown = all_shown(alloc, turns)?;
+    let values = turn_values(alloc, shown.as_slice())?;
+    put(members, alloc, "turns", Value::Array(values))?;
+    let left = left_out(turns) as u64;
+    put(members, alloc, "turns_left", Value::from(left))
 }

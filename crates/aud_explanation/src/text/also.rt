@@ -1,33 +1,37 @@
 //! The other entries with the same fault.
 ghost use Rattle.std.specs.Prelude.{◌≡◌, ◌++◌, OnOk, string_bytes};
-ghost use Rattle.aud_explanation.specs.AlsoText.{also_entry, entry_words, also_line, also_text, others_text};
+ghost use Rattle.aud_explanation.specs.AlsoText.{also_line, also_text, also_words, entry_words, more_line, more_text, more_words, others_text};
 
 use crate::also::Also;
 use crate::text::page::push_line;
-use crate::text::span::{push_lines, push_number};
+use crate::text::span::{push_lines, push_number, push_span};
 use std::alloc::{AllocError, Global};
 
-/// Puts the words that come first at the end.
-#[tactic(auto, unfolding(crate::specs::AlsoText::also_entry))]
-fn push_also_entry(line: &mut String) -> Result<(), AllocError>
-    ensures { OnOk result (string_bytes line.new ≡ string_bytes line.old ++ also_entry) }
+/// The words that come first, for the entries from one to another.
+#[tactic(auto, unfolding(crate::specs::AlsoText::also_words))]
+fn also_words(from: u64, to: u64) -> &'static str
+    ensures { result.now ≡ also_words from to }
 {
-    line.push_str("    also entry ")
+    if from == to {
+        "    also entry "
+    } else {
+        "    also entries "
+    }
 }
 
-/// Puts the words for an entry at the end.
-fn push_entry(line: &mut String, position: u64) -> Result<(), AllocError>
-    ensures { OnOk result (string_bytes line.new ≡ string_bytes line.old ++ entry_words position) }
+/// Puts the words for the entries from one to another at the end.
+fn push_entry(line: &mut String, from: u64, to: u64) -> Result<(), AllocError>
+    ensures { OnOk result (string_bytes line.new ≡ string_bytes line.old ++ entry_words from to) }
 {
-    push_also_entry(line)?;
-    push_number(line, position)?;
+    line.push_str(also_words(from, to))?;
+    push_span(line, from, to)?;
     line.push_str(", ")
 }
 
 fn push_words(line: &mut String, also: &Also<'_>) -> Result<(), AllocError>
     ensures { OnOk result (string_bytes line.new ≡ string_bytes line.old ++ also_line also.now) }
 {
-    push_entry(line, also.position)?;
+    push_entry(line, also.position, also.to)?;
     push_lines(line, also.lines)
 }
 
@@ -39,7 +43,7 @@ fn push_one(alloc: Global, out: &mut String, also: &Also<'_>) -> Result<(), Allo
     push_line(out, line.as_str())
 }
 
-/// Puts a line for each other entry with the same fault at the end.
+/// Puts a line for each range of other entries with the same fault at the end.
 pub(crate) fn push_also(
     alloc: Global,
     out: &mut String,
@@ -51,4 +55,36 @@ pub(crate) fn push_also(
         push_one(alloc, out, also)?;
     }
     Ok(())
+}
+
+/// The words that come last, for so many entries.
+#[tactic(auto, unfolding(crate::specs::AlsoText::more_words))]
+fn more_words(left: u64) -> &'static str
+    ensures { result.now ≡ more_words left }
+{
+    if left == 1 {
+        " entry more"
+    } else {
+        " entries more"
+    }
+}
+
+fn push_more_words(line: &mut String, left: u64) -> Result<(), AllocError>
+    ensures { OnOk result (string_bytes line.new ≡ string_bytes line.old ++ more_line left) }
+{
+    line.push_str("    and ")?;
+    push_number(line, left)?;
+    line.push_str(more_words(left))
+}
+
+/// Puts a line at the end that says how many entries more have the fault, if any do.
+pub(crate) fn push_more(alloc: Global, out: &mut String, left: u64) -> Result<(), AllocError>
+    ensures { OnOk result (string_bytes out.new ≡ string_bytes out.old ++ more_text left) }
+{
+    if left == 0 {
+        return Ok(());
+    }
+    let mut line = String::new(alloc);
+    push_more_words(&mut line, left)?;
+    push_line(out, line.as_str())
 }

@@ -1,18 +1,11 @@
 //! The causes.
 ghost use Rattle.std.specs.Prelude.{◌≡◌, ◌++◌, OnOk, string_bytes};
-ghost use Rattle.aud_explanation.specs.CauseText.{sure_word, lines_words, cause_line, todo_line, cause_text, causes_text};
+ghost use Rattle.aud_explanation.specs.CauseText.{cause_line, cause_text, causes_text, each_text, has_own, is_of_fault, lines_words, none_holds, none_text, of_words, todo_line};
 
-use crate::cause::Cause;
+use crate::cause::{Cause, CauseOf};
 use crate::text::page::push_line;
 use crate::text::span::push_lines;
 use std::alloc::{AllocError, Global};
-
-/// Whether the records leave no other cause, in a word.
-fn sure_word(sure: bool) -> &'static str
-    ensures { result.now ≡ sure_word sure }
-{
-    if sure { "certain" } else { "fits" }
-}
 
 /// Puts the lines that say so at the end.
 fn push_where(line: &mut String, lines: &[u64]) -> Result<(), AllocError>
@@ -26,6 +19,17 @@ fn push_where(line: &mut String, lines: &[u64]) -> Result<(), AllocError>
     }
 }
 
+/// Puts the ask at the end, of which a cause of a refused recovery is.
+fn push_of(line: &mut String, of: CauseOf) -> Result<(), AllocError>
+    ensures { OnOk result (string_bytes line.new ≡ string_bytes line.old ++ of_words of) }
+{
+    match of {
+        CauseOf::Fault => Ok(()),
+        CauseOf::Refused { line: None } => line.push_str(", of the ask"),
+        CauseOf::Refused { line: Some(ask) } => write!(line, ", of the ask on line {ask}"),
+    }
+}
+
 /// Puts what happened at the end.
 fn push_why(line: &mut String, cause: &Cause<'_>) -> Result<(), AllocError>
     ensures { OnOk result (string_bytes line.new ≡ string_bytes line.old ++ cause_line cause.now) }
@@ -33,8 +37,9 @@ fn push_why(line: &mut String, cause: &Cause<'_>) -> Result<(), AllocError>
     line.push_str("cause ")?;
     line.push_str(cause.id)?;
     line.push_str(" (")?;
-    line.push_str(sure_word(cause.sure))?;
+    line.push_str(cause.state.word())?;
     push_where(line, cause.lines)?;
+    push_of(line, cause.of)?;
     line.push_str("): ")?;
     line.push_str(cause.why)
 }
@@ -59,16 +64,65 @@ fn push_cause(alloc: Global, out: &mut String, cause: &Cause<'_>) -> Result<(), 
     push_line(out, todo.as_str())
 }
 
+fn is_of_fault(of: CauseOf) -> bool
+    ensures { result ≡ is_of_fault of }
+{
+    matches!(of, CauseOf::Fault)
+}
+
+/// Whether one of the causes is of the fault.
+fn has_own(causes: &[Cause<'_>]) -> bool
+    ensures { result ≡ has_own causes.now }
+{
+    for cause in causes {
+        if is_of_fault(cause.of) {
+            return true;
+        }
+    }
+    false
+}
+
+/// Whether causes of the fault are known, of which these were refuted, and none of those that hold is of the fault.
+fn none_holds(refuted: &[&'static str], causes: &[Cause<'_>]) -> bool
+    ensures { result ≡ none_holds refuted.now causes.now }
+{
+    if refuted.is_empty() {
+        return false;
+    }
+    !has_own(causes)
+}
+
+/// Puts at the end that no known cause holds, where it is so.
+fn push_none(out: &mut String, none: bool) -> Result<(), AllocError>
+    ensures { OnOk result (string_bytes out.new ≡ string_bytes out.old ++ none_text none) }
+{
+    if none {
+        out.push_str("no known cause of the fault holds\n")
+    } else {
+        Ok(())
+    }
+}
+
 /// Puts the causes at the end.
-pub(crate) fn push_causes(
-    alloc: Global,
-    out: &mut String,
-    causes: &[Cause<'_>],
-) -> Result<(), AllocError>
-    ensures { OnOk result (string_bytes out.new ≡ string_bytes out.old ++ causes_text causes.now) }
+fn push_each(alloc: Global, out: &mut String, causes: &[Cause<'_>]) -> Result<(), AllocError>
+    ensures { OnOk result (string_bytes out.new ≡ string_bytes out.old ++ each_text causes.now) }
 {
     for cause in causes {
         push_cause(alloc, out, cause)?;
     }
     Ok(())
+}
+
+/// Puts the causes at the end, and before them that none of the fault holds, where it is so.
+pub(crate) fn push_causes(
+    alloc: Global,
+    out: &mut String,
+    refuted: &[&'static str],
+    causes: &[Cause<'_>],
+) -> Result<(), AllocError>
+    ensures { OnOk result (string_bytes out.new
+        ≡ string_bytes out.old ++ causes_text refuted.now causes.now) }
+{
+    push_none(out, none_holds(refuted, causes))?;
+    push_each(alloc, out, causes)
 }

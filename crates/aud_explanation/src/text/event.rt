@@ -1,8 +1,9 @@
 //! The row of what happened to the client.
-ghost use Rattle.std.specs.Prelude.{◌≡◌, ◌++◌, ◌≤◌, IfOk, OnOk, string_bytes};
-ghost use Rattle.aud_explanation.specs.EventText.{after_words, happens_words, event_words, has_room, piece, piece_end, filled, events_text};
+ghost use Rattle.std.specs.Prelude.{◌≡◌, ◌++◌, ◌≤◌, IfOk, OnOk, codes, map, string_bytes};
+ghost use Rattle.aud_explanation.specs.EventText.{after_words, happens_words, event_words, has_room, piece, piece_end, pieces, pieces_end, left_words, row_words, events_text};
 
 use crate::event::{ClientEvent, Happens};
+use crate::long::{first_shown, last_shown, left_out};
 use crate::text::span::push_span;
 use std::alloc::{AllocError, Global};
 
@@ -89,18 +90,57 @@ fn push_event(
     Ok(piece_end(column, words))
 }
 
-/// Puts the events at the end, from that column on, and the newline.
-fn push_filled(alloc: Global, out: &mut String, events: &[ClientEvent]) -> Result<(), AllocError>
-    ensures { OnOk result (string_bytes out.new ≡ string_bytes out.old ++ filled 10 events.now) }
+/// Puts these events at the end, from that column on, and gives the column after them.
+fn push_pieces(
+    alloc: Global,
+    out: &mut String,
+    column: usize,
+    events: &[ClientEvent],
+) -> Result<usize, AllocError>
+    ensures text { OnOk result (string_bytes out.new
+        ≡ string_bytes out.old ++ pieces column (map event_words events.now)) }
+    ensures end { IfOk result (λ end. end ≡ pieces_end column (map event_words events.now)) }
 {
-    let mut column = 10;
+    let mut column = column;
     for event in events {
         column = push_event(alloc, out, column, event)?;
     }
+    Ok(column)
+}
+
+/// Puts how many events are left out at the end, where some are, and gives the column after that.
+fn push_left_words(
+    alloc: Global,
+    out: &mut String,
+    column: usize,
+    left: usize,
+) -> Result<usize, AllocError>
+    ensures text { OnOk result (string_bytes out.new
+        ≡ string_bytes out.old ++ pieces column (left_words left)) }
+    ensures end { IfOk result (λ end. end ≡ pieces_end column (left_words left)) }
+{
+    if left == 0 {
+        return Ok(column);
+    }
+    let words = format!(in alloc; ".. {left} more ..")?;
+    let words = words.as_str();
+    push_piece(out, column, words)?;
+    Ok(piece_end(column, words))
+}
+
+/// Puts the events that are shown at the end, from the column of the row on, and the newline.
+fn push_shown(alloc: Global, out: &mut String, events: &[ClientEvent]) -> Result<(), AllocError>
+    ensures { OnOk result (string_bytes out.new
+        ≡ string_bytes out.old ++ pieces 10 (row_words events.now) ++ codes "\n") }
+{
+    let after_first = push_pieces(alloc, out, 10, first_shown(events))?;
+    let column = push_left_words(alloc, out, after_first, left_out(events))?;
+    push_pieces(alloc, out, column, last_shown(events))?;
     out.push_str("\n")
 }
 
-/// Puts the row of the events at the end; nothing where there is none.
+/// Puts the row of the events at the end; nothing where there is none. Of more than 200 the first 100 and the last 100
+/// stand there, and between them how many are left out.
 pub(crate) fn push_events(
     alloc: Global,
     out: &mut String,
@@ -112,6 +152,6 @@ pub(crate) fn push_events(
         Ok(())
     } else {
         out.push_str("    client")?;
-        push_filled(alloc, out, events)
+        push_shown(alloc, out, events)
     }
 }

@@ -1,11 +1,11 @@
 //! The table of evidence.
 ghost use Rattle.std.specs.Prelude.{◌≡◌, ◌++◌, OnOk, flat_map, string_bytes};
-ghost use Rattle.aud_explanation.specs.Evidence.{tap_width, row_words, row_line, row_text, heading_text, table_text, evidence_text};
+ghost use Rattle.aud_explanation.specs.Evidence.{tap_width, said_words, row_words, row_line, row_text, heading_text, table_text, evidence_text};
 
 use crate::text::mark::mark;
 use crate::text::page::{push_left, push_line, push_right};
 use crate::text::place::push_place;
-use crate::text::record::push_record;
+use crate::text::record::{other_session, push_of, push_record};
 use aud_input::InputFile;
 use aud_rows::Row;
 use aud_verdict::Verdict;
@@ -22,16 +22,26 @@ fn tap_width(rows: &[Row<'_>]) -> usize
     width
 }
 
+/// Puts what the record of a row says at the end, and of which session, where that isn't the one with this pid.
+fn push_said(line: &mut String, pid: &str, row: &Row<'_>) -> Result<(), AllocError>
+    ensures { OnOk result (string_bytes line.new
+        ≡ string_bytes line.old ++ said_words pid.now row.now) }
+{
+    push_record(line, row.says)?;
+    push_of(line, other_session(row.session, pid))
+}
+
 /// Puts the words of a row at the end.
 fn push_words(
     alloc: Global,
     line: &mut String,
+    pid: &str,
     verdict: &Verdict,
     width: usize,
     row: &Row<'_>,
 ) -> Result<(), AllocError>
     ensures { OnOk result (string_bytes line.new
-        ≡ string_bytes line.old ++ row_words verdict.now width row.now) }
+        ≡ string_bytes line.old ++ row_words pid.now verdict.now width row.now) }
 {
     let number = row.line;
     let digits = format!(in alloc; "{number}")?;
@@ -39,7 +49,7 @@ fn push_words(
     line.push_str(" ")?;
     push_left(line, row.tap, width)?;
     line.push_str("  ")?;
-    push_record(line, row.says)?;
+    push_said(line, pid, row)?;
     line.push_str(mark(row.role, verdict))
 }
 
@@ -48,15 +58,16 @@ pub(crate) fn push_row(
     alloc: Global,
     out: &mut String,
     files: &[InputFile],
+    pid: &str,
     verdict: &Verdict,
     width: usize,
     row: &Row<'_>,
 ) -> Result<(), AllocError>
     ensures { OnOk result (string_bytes out.new
-        ≡ string_bytes out.old ++ row_text files.now verdict.now width row.now) }
+        ≡ string_bytes out.old ++ row_text files.now pid.now verdict.now width row.now) }
 {
     let mut line = String::new(alloc);
-    push_words(alloc, &mut line, verdict, width, row)?;
+    push_words(alloc, &mut line, pid, verdict, width, row)?;
     push_place(&mut line, files, row.line)?;
     push_line(out, line.as_str())
 }
@@ -77,15 +88,17 @@ fn push_rows(
     alloc: Global,
     out: &mut String,
     files: &[InputFile],
+    pid: &str,
     verdict: &Verdict,
     width: usize,
     rows: &[Row<'_>],
 ) -> Result<(), AllocError>
     ensures { OnOk result (string_bytes out.new
-        ≡ string_bytes out.old ++ flat_map (row_text files.now verdict.now width) rows.now) }
+        ≡ string_bytes out.old
+        ++ flat_map (row_text files.now pid.now verdict.now width) rows.now) }
 {
     for row in rows {
-        push_row(alloc, out, files, verdict, width, row)?;
+        push_row(alloc, out, files, pid, verdict, width, row)?;
     }
     Ok(())
 }
@@ -95,31 +108,34 @@ fn push_table(
     alloc: Global,
     out: &mut String,
     files: &[InputFile],
+    pid: &str,
     verdict: &Verdict,
     rows: &[Row<'_>],
 ) -> Result<(), AllocError>
     ensures { OnOk result (string_bytes out.new
-        ≡ string_bytes out.old ++ table_text files.now verdict.now rows.now) }
+        ≡ string_bytes out.old ++ table_text files.now pid.now verdict.now rows.now) }
 {
     let width = tap_width(rows);
     push_heading(alloc, out, width)?;
-    push_rows(alloc, out, files, verdict, width, rows)
+    push_rows(alloc, out, files, pid, verdict, width, rows)
 }
 
-/// Puts the table of evidence at the end, a line for each row under a heading; nothing where there is none.
+/// Puts the table of evidence of the session with this pid at the end, a line for each row under a heading; nothing
+/// where there is none.
 pub(crate) fn push_evidence(
     alloc: Global,
     out: &mut String,
     files: &[InputFile],
+    pid: &str,
     verdict: &Verdict,
     rows: &[Row<'_>],
 ) -> Result<(), AllocError>
     ensures { OnOk result (string_bytes out.new
-        ≡ string_bytes out.old ++ evidence_text files.now verdict.now rows.now) }
+        ≡ string_bytes out.old ++ evidence_text files.now pid.now verdict.now rows.now) }
 {
     if rows.is_empty() {
         Ok(())
     } else {
-        push_table(alloc, out, files, verdict, rows)
+        push_table(alloc, out, files, pid, verdict, rows)
     }
 }

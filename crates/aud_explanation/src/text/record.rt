@@ -1,6 +1,7 @@
-//! What a record says, in words.
+//! What a record says, in words, and of which session.
 ghost use Rattle.std.specs.Prelude.{◌≡◌, ◌++◌, OnOk, string_bytes};
-ghost use Rattle.aud_explanation.specs.Record.{record_text, pid_words, after_words, asks_words, names_words, reply_words, takes_up, takes_words};
+ghost use Rattle.std.specs.Option.{option_copied};
+ghost use Rattle.aud_explanation.specs.Record.{other_session, of_words, record_text, pid_words, after_words, asks_words, names_words, reply_words, takes_up, takes_words};
 
 use aud_rows::Says;
 use std::alloc::AllocError;
@@ -95,5 +96,24 @@ pub(crate) fn push_record(out: &mut String, says: Says<'_>) -> Result<(), AllocE
         } => write!(out, "conn {conn} got {position} {off}"),
         Says::Lost { conn } => write!(out, "conn {conn} lost"),
         Says::NoPacket { conn } => write!(out, "conn {conn} no packet"),
+    }
+}
+
+/// The session that a record speaks of, where it isn't the one with this pid.
+pub(crate) fn other_session<'r>(session: Option<&'r str>, pid: &str) -> Option<&'r str>
+    ensures { option_copied result ≡ other_session pid.now session.entry }
+{
+    let session = session?;
+    if session == pid { None } else { Some(session) }
+}
+
+/// Puts that session at the end, in words.
+pub(crate) fn push_of(out: &mut String, session: Option<&str>) -> Result<(), AllocError>
+    ensures { OnOk result (string_bytes out.new
+        ≡ string_bytes out.old ++ of_words (option_copied session.entry)) }
+{
+    match session {
+        Some(session) => write!(out, " of {session}"),
+        None => Ok(()),
     }
 }

@@ -4,6 +4,7 @@ ghost use Rattle.std.specs.Option.{option_copied};
 ghost use Rattle.aud_explanation.specs.Evidence.{row_text};
 ghost use Rattle.aud_explanation.specs.RefusedText.{instead_words, count_words, head_line, head_text, reply_text, missed_line, missed_text, all_missed_text, refused_text, all_refused_text};
 
+use crate::long::{first_shown, last_shown, left_out, push_more};
 use crate::refused::{Missed, RefusedRecovery};
 use crate::text::evidence::push_row;
 use crate::text::page::push_line;
@@ -57,15 +58,16 @@ fn push_reply(
     alloc: Global,
     out: &mut String,
     files: &[InputFile],
+    pid: &str,
     verdict: &Verdict,
     width: usize,
     reply: Option<Row<'_>>,
 ) -> Result<(), AllocError>
     ensures { OnOk result (string_bytes out.new
-        ≡ string_bytes out.old ++ reply_text files.now verdict.now width reply.entry) }
+        ≡ string_bytes out.old ++ reply_text files.now pid.now verdict.now width reply.entry) }
 {
     match reply {
-        Some(reply) => push_row(alloc, out, files, verdict, width, &reply),
+        Some(reply) => push_row(alloc, out, files, pid, verdict, width, &reply),
         None => Ok(()),
     }
 }
@@ -90,7 +92,8 @@ fn push_entries(alloc: Global, out: &mut String, entries: &[Missed<'_>]) -> Resu
     Ok(())
 }
 
-/// Puts a line for each entry that was missed at the end, where they are known.
+/// Puts a line for each entry that was missed at the end, where they are known: of more than 200 for the first 100 and
+/// the last 100.
 fn push_all_missed(
     alloc: Global,
     out: &mut String,
@@ -100,7 +103,11 @@ fn push_all_missed(
         ≡ string_bytes out.old ++ all_missed_text (option_copied missed.entry)) }
 {
     match missed {
-        Some(entries) => push_entries(alloc, out, entries),
+        Some(entries) => {
+            push_entries(alloc, out, first_shown(entries))?;
+            push_more(out, left_out(entries))?;
+            push_entries(alloc, out, last_shown(entries))
+        }
         None => Ok(()),
     }
 }
@@ -110,32 +117,35 @@ fn push_one(
     alloc: Global,
     out: &mut String,
     files: &[InputFile],
+    pid: &str,
     verdict: &Verdict,
     refused: &RefusedRecovery<'_, '_>,
 ) -> Result<(), AllocError>
     ensures { OnOk result (string_bytes out.new
-        ≡ string_bytes out.old ++ refused_text files.now verdict.now refused.now) }
+        ≡ string_bytes out.old ++ refused_text files.now pid.now verdict.now refused.now) }
 {
     let width = refused.ask.tap.len();
     push_head(alloc, out, refused)?;
-    push_row(alloc, out, files, verdict, width, &refused.ask)?;
-    push_reply(alloc, out, files, verdict, width, refused.reply)?;
+    push_row(alloc, out, files, pid, verdict, width, &refused.ask)?;
+    push_reply(alloc, out, files, pid, verdict, width, refused.reply)?;
     push_all_missed(alloc, out, refused.missed)
 }
 
-/// Puts the refused recoveries at the end.
+/// Puts the refused recoveries of the session with this pid at the end.
 pub(crate) fn push_refused(
     alloc: Global,
     out: &mut String,
     files: &[InputFile],
+    pid: &str,
     verdict: &Verdict,
     recoveries: &[RefusedRecovery<'_, '_>],
 ) -> Result<(), AllocError>
     ensures { OnOk result (string_bytes out.new
-        ≡ string_bytes out.old ++ all_refused_text files.now verdict.now recoveries.now) }
+        ≡ string_bytes out.old
+        ++ all_refused_text files.now pid.now verdict.now recoveries.now) }
 {
     for refused in recoveries {
-        push_one(alloc, out, files, verdict, refused)?;
+        push_one(alloc, out, files, pid, verdict, refused)?;
     }
     Ok(())
 }

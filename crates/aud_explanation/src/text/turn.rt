@@ -1,7 +1,8 @@
 //! The rows of the turns.
-ghost use Rattle.std.specs.Prelude.{◌≡◌, ◌++◌, OnOk, flat_map, string_bytes};
-ghost use Rattle.aud_explanation.specs.TurnText.{node_width, begin_name, begin_words, took_words, ending, end_words, names_words, turn_line, turn_text, turns_text};
+ghost use Rattle.std.specs.Prelude.{◌≡◌, ◌++◌, OnOk, string_bytes};
+ghost use Rattle.aud_explanation.specs.TurnText.{node_width, begin_name, begin_words, took_words, ending, end_words, names_words, turn_line, turn_text, rows_text, turns_text};
 
+use crate::long::{first_shown, last_shown, left_out, push_more};
 use crate::text::page::{push_left, push_line};
 use crate::text::span::{push_number, push_span};
 use crate::turn::{TurnBegin, TurnEnd, TurnShown};
@@ -121,7 +122,7 @@ fn push_rows(
     turns: &[TurnShown<'_>],
 ) -> Result<(), AllocError>
     ensures { OnOk result (string_bytes out.new
-        ≡ string_bytes out.old ++ flat_map (turn_text width) turns.now) }
+        ≡ string_bytes out.old ++ rows_text width turns.now) }
 {
     for turn in turns {
         push_turn(alloc, out, width, turn)?;
@@ -129,7 +130,7 @@ fn push_rows(
     Ok(())
 }
 
-/// Puts a row for each turn at the end.
+/// Puts a row for each turn at the end: of more than 200 for the first 100 and the last 100.
 pub(crate) fn push_turns(
     alloc: Global,
     out: &mut String,
@@ -138,5 +139,7 @@ pub(crate) fn push_turns(
     ensures { OnOk result (string_bytes out.new ≡ string_bytes out.old ++ turns_text turns.now) }
 {
     let width = node_width(turns);
-    push_rows(alloc, out, width, turns)
+    push_rows(alloc, out, width, first_shown(turns))?;
+    push_more(out, left_out(turns))?;
+    push_rows(alloc, out, width, last_shown(turns))
 }

@@ -24,6 +24,9 @@ use std::thread::Threads;
 /// How many lines are read in one piece of work.
 const PART: usize = 1_024;
 
+/// The bytes by which a thread's heap is to grow before a part: those of the records of several.
+const ROOM: usize = 8_388_608;
+
 /// What a line says by itself.
 #[derive(Drop)]
 pub enum OwnRecord {
@@ -105,7 +108,7 @@ fn own_records(
     requires { KeepsTaps taps.now }
     ensures { IfOk result (λ own. AreOfLines (taps_so_far taps.now) lines.now own.items) }
 {
-    make_room(alloc);
+    make_room(alloc, ROOM);
     let mut pool = TextPool::new(alloc, keys);
     let mut scratch = Scratch::new(alloc);
     let mut own = Vec::with_capacity(alloc, lines.len())?;

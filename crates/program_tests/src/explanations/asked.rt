@@ -116,7 +116,7 @@ static CASES: [&str; 8] = [
     r#"explain --json
 @REFUSED
 -> Ok(AllYes)
-{"also":[],"at_frame":null,"causes":[{"id":"unknown-offset","lines":[28],"sure":true,"todo":"take as offset only what a server that recovers put at the end of an event.","why":"The client asked to go on after an offset that no entry of the stream has."}],"class":"delivery","client":"c1","conn":null,"due":1,"events":[{"after":null,"from":null,"happens":"reply","lines":[22,22],"to":null},{"after":null,"from":1,"happens":"got","lines":[23,23],"to":1},{"after":null,"from":null,"happens":"lost","lines":[25,25],"to":null},{"after":null,"from":null,"happens":"asks","lines":[28,28],"to":null},{"after":null,"from":null,"happens":"refused","lines":[29,29],"to":null}],"evidence":[],"fault":null,"got":1,"nsp":"/","off":null,"pid":"YTMVrS9zt7pTBskJAAAC","refused":[{"ask":{"file":null,"file_line":null,"line":28,"role":"ask","says":"conn 2 asks YTMVrS9zt7pTBskJAAAC after hello","tap":"c1"},"instead":"hgDbD53qREGmUUTXAAAC","missed":[{"off":"1795330308828-0","position":2}],"reply":{"file":null,"file_line":null,"line":29,"role":"reply","says":"conn 2 reply, sid rk3B-e0cNO1Nmx7tAAAB, pid hgDbD53qREGmUUTXAAAC","tap":"c1"}}],"tail":0,"turns":[{"begin":"open","end":"break","high":1,"lines":[7,9],"low":0,"node":"a","took":[1,1],"turn":0}],"v":1,"verdict":"yes"}
+{"alike":[],"also":[],"also_left":0,"at_frame":null,"causes":[{"id":"unknown-offset","lines":[28],"of":"refused","of_line":28,"state":"certain","sure":true,"todo":"take as offset only what a server that recovers put at the end of an event.","why":"The client asked to go on after an offset that no entry of the stream has."}],"class":"delivery","client":"c1","conn":null,"due":1,"events":[{"after":null,"from":null,"happens":"reply","lines":[22,22],"to":null},{"after":null,"from":1,"happens":"got","lines":[23,23],"to":1},{"after":null,"from":null,"happens":"lost","lines":[25,25],"to":null},{"after":null,"from":null,"happens":"asks","lines":[28,28],"to":null},{"after":null,"from":null,"happens":"refused","lines":[29,29],"to":null}],"events_left":0,"evidence":[],"fault":null,"got":1,"nsp":"/","off":null,"pid":"YTMVrS9zt7pTBskJAAAC","refused":[{"ask":{"file":null,"file_line":null,"line":28,"of":null,"role":"ask","says":"conn 2 asks YTMVrS9zt7pTBskJAAAC after hello","tap":"c1"},"instead":"hgDbD53qREGmUUTXAAAC","missed":[{"off":"1795330308828-0","position":2}],"missed_left":0,"reply":{"file":null,"file_line":null,"line":29,"of":null,"role":"reply","says":"conn 2 reply, sid rk3B-e0cNO1Nmx7tAAAB, pid hgDbD53qREGmUUTXAAAC","tap":"c1"}}],"refuted":[],"tail":0,"turns":[{"begin":"open","end":"break","high":1,"lines":[7,9],"low":0,"node":"a","took":[1,1],"turn":0}],"turns_left":0,"v":1,"verdict":"yes"}
 {"summary":*"#,
     r#"explain
 @TOO_EARLY
@@ -129,8 +129,8 @@ refused recovery: got session 5LM10sa9lUFPLvRyAAAC, missed 1
       27 c1  conn 2 asks 3qMK4FSn-elzvYcsAAAC after 1795330276219-0
       28 c1  conn 2 reply, sid AzB0CO5DXp5s3JwnAAAB, pid 5LM10sa9lUFPLvRyAAAC
     missed entry 2 1795330276547-0
-cause asked-too-early (certain, lines 11 16): The session broke with its node's cursor at 3; another
-        was opened instead with the cursor at 2.
+cause asked-too-early (certain, lines 11 16, of the ask on line 27): The session broke with its
+        node's cursor at 3; another was opened instead with the cursor at 2.
 do: let the client wait longer before it comes back, or the server notice a break sooner.
 
 sessions: 2, yes: 2, no: 0
@@ -153,7 +153,8 @@ refused recovery: got session Q, missed 2
     missed entry 6 o6
 refused recovery: got no session, missed: not known
       30 c1  conn 3 asks P, no offset
-cause no-offset (certain, line 30): The client asked for the session and gave no offset.
+cause no-offset (certain, line 30, of the ask on line 30): The client asked for the session and gave
+        no offset.
 do: store the offset of each event, and ask with the last one.
 
 no X NOLOG [recording]
@@ -192,9 +193,11 @@ client c1, namespace /, turns 2, got 3, due 3, tail 0
     client  11 reply  12-17 got 1-2  20 lost  22 asks after 2  23 reply  23 got 3  27 asks after 3
 refused recovery: got no session, missed: not known
       27 c1  conn 3 asks P after o3
-cause node-ended-in-turn (fits, line 38): The log of a ends in the session's last turn.
+cause node-ended-in-turn (fits, line 38, of the ask on line 27): The log of a ends in the session's
+        last turn.
 do: see whether the node was killed: then it stored no session, and waiting can't help.
-cause never-broken (fits, line 38): No log has a break of the session's last turn.
+cause never-broken (fits, line 38, of the ask on line 27): No log has a break of the session's last
+        turn.
 do: let the client wait longer before it comes back, or the server notice a break sooner.
 
 sessions: 2, yes: 2, no: 0
@@ -225,9 +228,11 @@ client c1, namespace /, turns 1, got 1, due 1, tail 0
 refused recovery: got session Q, missed 0
       17 c1  conn 2 asks P after o1
       18 c1  conn 2 reply, sid s2, pid Q
-cause node-ended-in-turn (fits, line 6): The log of a ends in the session's last turn.
+cause node-ended-in-turn (fits, line 6, of the ask on line 17): The log of a ends in the session's
+        last turn.
 do: see whether the node was killed: then it stored no session, and waiting can't help.
-cause never-broken (fits, line 5): No log has a break of the session's last turn.
+cause never-broken (fits, line 5, of the ask on line 17): No log has a break of the session's last
+        turn.
 do: let the client wait longer before it comes back, or the server notice a break sooner.
 
 sessions: *"#,
@@ -243,7 +248,7 @@ client c1, namespace /, turns 1, got 1, due 1, tail 0
 refused recovery: got session Q, missed 0
       17 c1  conn 2 asks P after o1
       18 c1  conn 2 reply, sid s2, pid Q
-cause session-over (certain, line 19): The log of a ends the session.
+cause session-over (certain, line 19, of the ask on line 17): The log of a ends the session.
 do: keep a session that a client may come back to, for as long as it may.
 
 sessions: *"#,

@@ -47,8 +47,8 @@ refused recovery: got session hgDbD53qREGmUUTXAAAC, missed 1
       28 c1  conn 2 asks YTMVrS9zt7pTBskJAAAC after hello
       29 c1  conn 2 reply, sid rk3B-e0cNO1Nmx7tAAAB, pid hgDbD53qREGmUUTXAAAC
     missed entry 2 1795330308828-0
-cause unknown-offset (certain, line 28): The client asked to go on after an offset that no entry of
-        the stream has.
+cause unknown-offset (certain, line 28, of the ask on line 28): The client asked to go on after an
+        offset that no entry of the stream has.
 do: take as offset only what a server that recovers put at the end of an event.
 
 sessions: 2, yes: 2, no: 0

@@ -2,8 +2,8 @@
 //!
 //! The first line of a case is the arguments. The second has what is read: `@A B` the files with these texts, and what
 //! stands below is one more; or `2 1 c1@1 e:a` the bundle of a simulated cluster of so many nodes and clients, which
-//! runs this schedule. After `-> ` comes how the run ends, and below it what is written, where `*` stands for what is
-//! not told. It may be the text of a name too, as `@A`.
+//! runs this schedule. After `-> ` comes how the run ends, and below it what is written, where each `*` stands for
+//! what is not told. It may be the text of a name too, as `@A`.
 use crate::arguments::words_of;
 use crate::case::cut;
 use crate::clusters::bundle_of;
@@ -122,13 +122,28 @@ fn told(alloc: Global, outcome: Outcome, written: &[u8]) -> Result<String, Fail>
     Ok(format!(in alloc; "{outcome:?}\n{written}")?)
 }
 
-/// Whether this is the text, with anything in the place of a `*`.
+/// Whether this is the text, with anything in the place of each `*`.
 fn is_told(written: &str, text: &str) -> bool {
-    match text.split_once('*') {
-        Some((first, last)) => match written.strip_prefix(first) {
-            Some(rest) => rest.ends_with(last),
-            None => false,
-        },
-        None => written == text,
+    let Some((first, rest)) = text.split_once('*') else {
+        return written == text;
+    };
+    let Some(left) = written.strip_prefix(first) else {
+        return false;
+    };
+    match rest.rsplit_once('*') {
+        Some((parts, last)) => has_parts(left, parts, last),
+        None => left.ends_with(rest),
     }
+}
+
+/// Whether these parts stand in the text, one after the other, and the last part at its end.
+fn has_parts(text: &str, parts: &str, last: &str) -> bool {
+    let mut left = text;
+    for part in parts.split('*') {
+        match left.split_once(part) {
+            Some((_, after)) => left = after,
+            None => return false,
+        }
+    }
+    left.ends_with(last)
 }

@@ -267,6 +267,7 @@ client c1, namespace /, connection 2, turns 2, got 2, due 2
     turn 0  a  6 open, cursor 0 == take 1-2 == 9 break, cursor 2
     turn 1  a  10 back, cursor 2 == 10 log ends, cursor 2
     client  13 reply  14 got 1  16 asks after 2  17 reply  18 got 2
+no known cause of the fault holds
 
 sessions: *"#,
     // It gives no offset.

@@ -55,7 +55,7 @@ c1 {"k":"in","t":"40{\"sid\":\"s1\",\"pid\":\"P\"}"}
 ];
 
 /// What is written of each of them; what a log has after the common lines stands in a second file.
-static CASES: [&str; 8] = [
+static CASES: [&str; 11] = [
     // A session of which no node has a record.
     r#"explain
 @NO_RECORD
@@ -94,6 +94,7 @@ no one client, turns 1, delivery not judged
        5 node-number-one  gone  earlier
        6 node-number-one  join room\x0a\x1b[2J  <- does not fit in the turns
     turn 0  node-number-one  4 open, cursor 0 == 5 gone, cursor 0
+no known cause of the fault holds
 
 no Q CHAIN [recording]
 no one client, turns 1, delivery not judged
@@ -105,6 +106,7 @@ no one client, turns 1, delivery not judged
         0123456789-0123456789-0123456789-0123456789-0123456789-0123456789-0123456789-0123456789-0123
         456789-0123456789  <- does not fit in the turns
     turn 0  node-number-one  7 open, cursor 0 == 8 gone, cursor 0
+no known cause of the fault holds
 
 sessions: *"#,
     r#"explain
@@ -134,6 +136,56 @@ no one client, turns 1, delivery not judged
     turn 0  a  4 open, cursor 0 == 7 log ends, cursor 0
 cause restarted-in-old-log (certain, line 7): a started again in its old log.
 do: begin a new log, of another name, each time that a node starts.
+
+sessions: *"#,
+    // The same, after a record of another session; of that session the record before is its own.
+    r#"explain --pid P --pid Q\
+@NODES
+a {"k":"open","pid":"Q\\","sid":"s2","nsp":"/"}
+a {"k":"join","pid":"Q\\","room":"r"}
+a {"k":"start","off":null}
+-> Ok(SomeNo)
+no P ORDER [recording]
+no one client, turns 1, delivery not judged
+    line tap  record
+       8 a    join r of Q\\  earlier
+       9 a    start, cursor 0  <- out of order
+    turn 0  a  4 open, cursor 0 == 9 log ends, cursor 0
+cause restarted-in-old-log (certain, line 9): a started again in its old log.
+do: begin a new log, of another name, each time that a node starts.
+
+no Q\\ ORDER [recording]
+no one client, turns 1, delivery not judged
+    line tap  record
+       8 a    join r  earlier
+       9 a    start, cursor 0  <- out of order
+    turn 0  a  7 open, cursor 0 == 9 log ends, cursor 0
+cause restarted-in-old-log (certain, line 9): a started again in its old log.
+do: begin a new log, of another name, each time that a node starts.
+
+sessions: *"#,
+    r#"explain --json
+@NODES
+a {"k":"open","pid":"Q\\","sid":"s2","nsp":"/"}
+a {"k":"join","pid":"Q\\","room":"r"}
+a {"k":"start","off":null}
+-> Ok(SomeNo)
+{"alike":["Q\\"],"also":[],"also_left":0,"at_frame":null,"causes":[{"id":"restarted-in-old-log","lines":[9],"of":"fault","of_line":null,"state":"certain","sure":true,"todo":"begin a new log, of another name, each time that a node starts.","why":"a started again in its old log."}],"class":"recording","client":null,"conn":null,"due":null,"events":[],"events_left":0,"evidence":[{"file":null,"file_line":null,"line":8,"of":"Q\\","role":"earlier","says":"join r","tap":"a"},{"file":null,"file_line":null,"line":9,"of":null,"role":"fault","says":"start, cursor 0","tap":"a"}],"fault":"ORDER","got":null,"nsp":null,"off":null,"pid":"P","refused":[],"refuted":["no-start","entries-skipped-by-node","entry-taken-again","not-in-stream"],"tail":null,"turns":[{"begin":"open","end":"log","high":0,"lines":[4,9],"low":0,"node":"a","took":null,"turn":0}],"turns_left":0,"v":1,"verdict":"no"}
+*"#,
+    // The record that is out of order is itself of another session.
+    r#"explain --pid R
+@NODES
+n {"k":"tap","v":1,"of":"node"}
+n {"k":"gone","pid":"P"}
+n {"k":"open","pid":"R","sid":"s3","nsp":"/"}
+-> Ok(SomeNo)
+no R ORDER [recording]
+no one client, turns 1, delivery not judged
+    line tap  record
+       8 n    gone of P  <- out of order
+    turn 0  n  9 open, cursor 0 == 9 log ends, cursor 0
+cause no-start (certain, line 8): The log of n does not begin with a `start`.
+do: begin a node's log with a `start`, when the node starts.
 
 sessions: *"#,
     // Its node takes an entry that the stream does not have.

@@ -1,4 +1,4 @@
-//! The thirteen faults, each made by a simulated cluster, and explained.
+//! The thirteen faults, each made by a simulated cluster, two of them in two ways, and explained.
 //!
 //! Of one node a bundle begins with the headers of `st`, `n1` and `c1` and with the `start` of the node, lines 1 to 4;
 //! of two with those of `n2` too, lines 1 to 6. Above each case stands what the lines after these are.
@@ -6,7 +6,7 @@ use crate::explanations::cases::assert_cases;
 use std::test::Fail;
 
 /// The schedule of one client, and the explanation of a session.
-static CASES: [&str; 13] = [
+static CASES: [&str; 15] = [
     // The `open` is lost. 5 conn, 6 reply, 7 entry 1, 8 take, 9 the frame, 10 break, 11 lost.
     r#"explain --pid p1
 1 1 lose c1@1 e:a t1 x1
@@ -99,6 +99,23 @@ cause not-a-packet (fits, line 11): A record of the client's tap is no packet: t
 do: record what came as it came: a text as a text, and bytes as bytes.
 
 sessions: *"#,
+    // The frame of entry 1 is without the first of its attachments. 5 open, 6 conn, 7 reply, 8 entry 1, 9 entry 2, 10
+    // take, 11 the text of entry 1, 12 its second attachment, 13 take, 14 the frame of entry 2, in place of an
+    // attachment.
+    r#"explain --pid p1
+1 1 c1@1 e:a:::2 e:b short1 t1 t1
+-> Ok(SomeNo)
+no p1 FRAME [packets]
+client c1, namespace /, connection 1, turns 1, delivery not judged
+    line tap  record
+      14 c1   conn 1 no packet  <- no packet
+    turn 0  n1  5 open, cursor 0 == take 1-2 == 13 log ends, cursor 2
+    client  7 reply
+cause not-a-packet (fits, line 14): A record of the client's tap is no packet: a text comes where
+        attachments are awaited.
+do: look at the records before this one: a packet's attachment is not among them.
+
+sessions: *"#,
     // A session without a reply, and another one after it. 5 open of p1, 6 conn, 7 entry 1, 8 take, 9 its frame, 10
     // gone, 11 lost, 12 open of p2, 13 conn, 14 reply, 15 entry 2, 16 take, 17 its frame.
     r#"explain --pid p2
@@ -114,6 +131,28 @@ client c1, namespace /, connection 1, turns 1, delivery not judged
 cause tap-began-late (certain, line 9): Events came in a stay without a reply, and no session was
         asked for in it.
 do: begin a client's tap before its first packet.
+
+sessions: *"#,
+    // The connection breaks before the reply to a recovery. 5 open, 6 conn, 7 reply, 8 entry 1, 9 take, 10 its frame, 11
+    // break 0, 12 lost, 13 entry 2, 14 take, 15 conn, 16 asks after 1-0, 17 back 1, 18 the frame of entry 2, 19 break 1,
+    // 20 lost.
+    r#"explain --pid p1
+1 1 c1@1 e:a t1 x1 e:b t1 n1@1 x1
+-> Ok(SomeNo)
+no p1 ORPHAN [packets]
+client c1, namespace /, connection 2, turns 2, delivery not judged
+    line tap  record
+      16 c1   conn 2 asks p1 after 1-0
+      18 c1   conn 2 got 2 2-0  <- of no known session
+      20 c1   conn 2 lost  later
+    turn 0  n1  5 open, cursor 0 == take 1 == 11 break, cursor 1
+    turn 1  n1  17 back, cursor 2 == 19 break, cursor 2
+    client  7 reply  10 got 1  12 lost  16 asks after 1  18 got 2  20 lost
+refused recovery: got no session, missed: not known
+      16 c1  conn 2 asks p1 after 1-0
+cause cut-before-reply (certain, line 16): The client asked for a session, and events came, but no
+        reply did.
+do: nothing, where the client came back; else look at why the connection was cut.
 
 sessions: *"#,
     // The frame has the word hix. 5 open, 6 conn, 7 reply, 8 entry 1, 9 take, 10 the frame.

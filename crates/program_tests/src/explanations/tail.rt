@@ -50,8 +50,7 @@ client c1, namespace /, connection 1, turns 1, got 1, due 4, tail 3
       16 c1   conn 1 got 1 o1  <- the last received
        3 st   entry 2 o2  the entry
       10 a    take 2 o2  reached here
-    also entry 3, line 4
-    also entry 4, line 5
+    also entries 3-4, lines 4 5
     turn 0  a  8 open, cursor 0 == take 1-4 == 12 log ends, cursor 4
     client  15 reply  16 got 1  17 lost
 
@@ -66,7 +65,7 @@ lines: 17, bytes: 647, seconds: *
     r#"explain --whole --json
 @TAIL
 -> Ok(SomeNo)
-{"also":[{"lines":[4],"position":3},{"lines":[5],"position":4}],"at_frame":null,"causes":[],"class":"delivery","client":"c1","conn":1,"due":4,"events":[{"after":null,"from":null,"happens":"reply","lines":[15,15],"to":null},{"after":null,"from":1,"happens":"got","lines":[16,16],"to":1},{"after":null,"from":null,"happens":"lost","lines":[17,17],"to":null}],"evidence":[{"file":null,"file_line":null,"line":16,"role":"fault","says":"conn 1 got 1 o1","tap":"c1"},{"file":null,"file_line":null,"line":3,"role":"entry","says":"entry 2 o2","tap":"st"},{"file":null,"file_line":null,"line":10,"role":"reached","says":"take 2 o2","tap":"a"}],"fault":"TAIL","got":1,"nsp":"/","off":null,"pid":"P","refused":[],"tail":3,"turns":[{"begin":"open","end":"log","high":4,"lines":[8,12],"low":0,"node":"a","took":[1,4],"turn":0}],"v":1,"verdict":"no"}
+{"alike":[],"also":[{"lines":[4,5],"position":3,"to":4}],"also_left":0,"at_frame":null,"causes":[],"class":"delivery","client":"c1","conn":1,"due":4,"events":[{"after":null,"from":null,"happens":"reply","lines":[15,15],"to":null},{"after":null,"from":1,"happens":"got","lines":[16,16],"to":1},{"after":null,"from":null,"happens":"lost","lines":[17,17],"to":null}],"events_left":0,"evidence":[{"file":null,"file_line":null,"line":16,"of":null,"role":"fault","says":"conn 1 got 1 o1","tap":"c1"},{"file":null,"file_line":null,"line":3,"of":null,"role":"entry","says":"entry 2 o2","tap":"st"},{"file":null,"file_line":null,"line":10,"of":null,"role":"reached","says":"take 2 o2","tap":"a"}],"fault":"TAIL","got":1,"nsp":"/","off":null,"pid":"P","refused":[],"refuted":[],"tail":3,"turns":[{"begin":"open","end":"log","high":4,"lines":[8,12],"low":0,"node":"a","took":[1,4],"turn":0}],"turns_left":0,"v":1,"verdict":"no"}
 {"summary":{"bytes":647,"class":{"delivery":1,"packets":0,"recording":0},"entries":{"all":4,"recoverable":4},"fault":{"CHAIN":0,"CLIENT":0,"CONTENT":0,"DOUBLED":0,"EXTRA":0,"FRAME":0,"LOST":0,"NAMES":0,"NOLOG":0,"ORDER":0,"ORPHAN":0,"SWAPPED":0,"TAIL":1,"WINDOW":0},"lines":17,"no":1,"recoveries":{"asked":0,"granted":0,"refused":0},"seconds":*,"sessions":1,"tail":{"events":3,"sessions":1},"unobserved":0,"yes":0},"v":1}
 "#,
     r#"explain --whole
@@ -84,7 +83,7 @@ sessions: *"#,
     r#"explain --json --whole
 @NOTHING
 -> Ok(SomeNo)
-{"also":[],"at_frame":null,"causes":[],"class":"delivery","client":"c1","conn":null,"due":1,"events":[{"after":null,"from":null,"happens":"reply","lines":[10,10],"to":null}],"evidence":[{"file":null,"file_line":null,"line":2,"role":"entry","says":"entry 1 1-0","tap":"st"},{"file":null,"file_line":null,"line":7,"role":"reached","says":"take 1 1-0","tap":"a"}],"fault":"TAIL","got":0,"nsp":"/","off":null,"pid":"P","refused":[],"tail":1,"turns":[{"begin":"open","end":"log","high":1,"lines":[5,7],"low":0,"node":"a","took":[1,1],"turn":0}],"v":1,"verdict":"no"}
+{"alike":[],"also":[],"also_left":0,"at_frame":null,"causes":[],"class":"delivery","client":"c1","conn":null,"due":1,"events":[{"after":null,"from":null,"happens":"reply","lines":[10,10],"to":null}],"events_left":0,"evidence":[{"file":null,"file_line":null,"line":2,"of":null,"role":"entry","says":"entry 1 1-0","tap":"st"},{"file":null,"file_line":null,"line":7,"of":null,"role":"reached","says":"take 1 1-0","tap":"a"}],"fault":"TAIL","got":0,"nsp":"/","off":null,"pid":"P","refused":[],"refuted":[],"tail":1,"turns":[{"begin":"open","end":"log","high":1,"lines":[5,7],"low":0,"node":"a","took":[1,1],"turn":0}],"turns_left":0,"v":1,"verdict":"no"}
 {"summary":*"#,
     r#"explain
 @TAIL
@@ -141,8 +140,8 @@ refused recovery: got session 5LM10sa9lUFPLvRyAAAC, missed 1
       27 c1  conn 2 asks 3qMK4FSn-elzvYcsAAAC after 1795330276219-0
       28 c1  conn 2 reply, sid AzB0CO5DXp5s3JwnAAAB, pid 5LM10sa9lUFPLvRyAAAC
     missed entry 2 1795330276547-0
-cause asked-too-early (certain, lines 11 16): The session broke with its node's cursor at 3; another
-        was opened instead with the cursor at 2.
+cause asked-too-early (certain, lines 11 16, of the ask on line 27): The session broke with its
+        node's cursor at 3; another was opened instead with the cursor at 2.
 do: let the client wait longer before it comes back, or the server notice a break sooner.
 
 sessions: 2, yes: 1, no: 1

@@ -2,6 +2,7 @@ use Rattle.std.proofs.Common.{◌≡◌, ◌&&◌, length, map, nat_eq, subst, s
 use Rattle.std.specs.Prelude.{All}
 use Rattle.std.specs.Option.{option_copied}
 use Rattle.std.proofs.lemmas.Result.{IfOk-weaker}
+use Rattle.aud_explanation.specs.CauseState.{is_certain}
 use Rattle.aud_causes.specs.declared.found.CauseFound.{CauseFound}
 use Rattle.aud_causes.specs.Causes.{is_sure}
 use Rattle.aud_causes.specs.Found.{cause_seen, shown_causes}
@@ -18,9 +19,9 @@ returns-clause-sure c =
     let others = c.has_others.result in
     IfOk-weaker c.shown_causes.result
     (λ causes. map cause_seen causes.items ≡ shown_causes here lines client numbers others c.as_slice.result.now)
-    (λ causes. All (λ (f : CauseFound). f.sure ≡ is_sure c.args.verdict.now causes.items) causes.items)
+    (λ causes. All (λ (f : CauseFound). is_certain f.state ≡ is_sure c.args.verdict.now causes.items) causes.items)
     (λ causes told.
-    subst (λ v. All (λ (f : CauseFound). f.sure ≡ is_sure v causes.items) causes.items) (sym c.in-No.is)
-    (subst (λ b. All (λ (f : CauseFound). f.sure ≡ (b && nat_eq (length causes.items) 1)) causes.items) c.has_others.ensures
+    subst (λ v. All (λ (f : CauseFound). is_certain f.state ≡ is_sure v causes.items) causes.items) (sym c.in-No.is)
+    (subst (λ b. All (λ (f : CauseFound). is_certain f.state ≡ (b && nat_eq (length causes.items) 1)) causes.items) c.has_others.ensures
     (sure_alone here lines client numbers others c.as_slice.result.now causes.items told)))
     c.shown_causes.ensures

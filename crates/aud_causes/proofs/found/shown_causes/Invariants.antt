@@ -1,6 +1,6 @@
-use Rattle.std.proofs.Common.{◌≡◌, ◌&&◌, length, map, take, nat_eq}
+use Rattle.std.proofs.Common.{◌≡◌, map, take}
 use Rattle.std.specs.Option.{option_copied}
-use Rattle.aud_causes.specs.Found.{cause_seen, shown_cause}
+use Rattle.aud_causes.specs.Found.{cause_seen, shown_among}
 use Rattle.aud_causes.specs.Records.{place_of}
 use Rattle.aud_causes.proofs.found.shown_causes.Given as goal
 
@@ -8,4 +8,4 @@ use Rattle.aud_causes.proofs.found.shown_causes.Given as goal
 abbrev pub invariant-loop-cause : goal.invariant-loop-cause
 invariant-loop-cause l =
     map cause_seen l.causes.items
-    ≡ map (shown_cause l.sheet.recording.now l.sheet.lines.now (place_of (option_copied l.tap)) l.numbers (l.others && nat_eq (length l.found) 1)) (take l.cause-index l.found)
+    ≡ map (shown_among l.sheet.recording.now l.sheet.lines.now (place_of (option_copied l.tap)) l.numbers l.others l.found) (take l.cause-index l.found)

@@ -2,8 +2,7 @@ use Rattle.std.proofs.Common.{◌≡◌, false, length, slice_get, ap, ◌∙◌
 use Rattle.std.specs.Option.{option_map_or}
 use Rattle.aud_base.specs.Places.{places_of, places_where}
 use Rattle.aud_base.proofs.NotedPlaces.{noted-at}
-use Rattle.aud_client.specs.Received.{stay_names_pid, stays_numbered}
-use Rattle.aud_client.proofs.Numbers.{numbered_all}
+use Rattle.aud_client.specs.Received.{stay_names_pid}
 use Rattle.aud_client.proofs.by_session.by_session.Goals as goal
 
 pub loop-number-preserved : goal.loop-number-preserved
@@ -16,4 +15,4 @@ pub returns : goal.returns
 returns c = λ q.
     let stays = c.args.stays.now in
     let all : c.loop-number.number ≡ length stays = omega arith in
-    ap (stays_numbered stays) (c.loop-number.invariant q ∙ ap (places_where (λ k. option_map_or (stay_names_pid q) (slice_get stays k) false)) all) ∙ numbered_all (stay_names_pid q) stays
+    c.loop-number.invariant q ∙ ap (places_where (λ k. option_map_or (stay_names_pid q) (slice_get stays k) false)) all

@@ -1,5 +1,6 @@
 use Rattle.std.proofs.Common.{[], ◌++◌, Err, string_bytes, refl, sym, ap, subst, ◌∙◌}
 use Rattle.std.proofs.lemmas.Result.{err_from_is_err_and}
+use Rattle.aud_explain_app.specs.Alike.{tellings}
 use Rattle.aud_explain_app.specs.Chosen.{sessions_chosen}
 use Rattle.aud_explain_app.specs.Missing.{first_missing}
 use Rattle.aud_explain_app.specs.Output.{AreFigures, form_of, summary_in}
@@ -29,7 +30,7 @@ returns-clause-explaining g c =
       are_sessions = c.in_ok-add_strangers.ensures;
       none_missing = ap (λ pids. first_missing pids options.pids) (sym known) ∙ c.in_ok-told.ensures.none_missing;
       texts = text;
-      are_texts = subst (λ sessions. AddTexts recording lines (form_of options.form) files (sessions_chosen recording options.only options.pids sessions) [] text) c.deref-2.ensures.value c.in_ok-told.ensures.told;
+      are_texts = subst (λ sessions. AddTexts recording lines (form_of options.form) files (tellings recording options.pids (sessions_chosen recording options.only options.pids sessions)) [] text) c.deref-2.ensures.value c.in_ok-told.ensures.told;
       figures = c.figures_of-figures.result;
       are_figures = subst (λ verdicts. AreFigures options recording c.args.size verdicts c.figures_of-figures.result) c.deref.ensures.value c.figures_of-figures.ensures;
       seconds = c.seconds_since.result;

@@ -1,5 +1,6 @@
 use Rattle.std.proofs.Common.{◌++◌, ◌∙◌, drop, flat_map, string_bytes, ap, arith}
 use Rattle.std.proofs.lemmas.List.{drop_all}
+use Rattle.aud_explain_app.specs.Alike.{telling_of}
 use Rattle.aud_explain_app.proofs.Steps.{texts_none, texts_part, texts_put}
 use Rattle.aud_explain_app.proofs.sessions.push_sessions.Goals as goal
 
@@ -11,14 +12,14 @@ loop-done-preserved g c = λ end others.
     let files = c.args.layout.files.now in
     let before = string_bytes c.loop-done.out in
     let put =
-    texts_put recording lines form files (λ s. s.now) string_bytes _ _ before (string_bytes c.push_all.new.out) c.in_ok-texts.ensures
+    texts_put recording lines form files telling_of string_bytes _ _ before (string_bytes c.push_all.new.out) c.in_ok-texts.ensures
     (c.in_ok-push_all.ensures ∙ ap (λ texts. before ++ flat_map string_bytes texts) c.deref.ensures.value)
     in
     c.loop-done.invariant end
-    (texts_part recording lines form files (λ s. s.now) c.args.sessions.now c.loop-done.done c.min.result _ _ end (omega (arith, c.min.ensures)) put others)
+    (texts_part recording lines form files telling_of c.args.sessions.now c.loop-done.done c.min.result _ _ end (omega (arith, c.min.ensures)) put others)
 
 pub returns : goal.returns
 returns g c =
     c.loop-done.invariant (string_bytes c.loop-done.out)
-    (texts_none c.args.sheet.recording.now c.args.sheet.lines.now c.args.layout.form c.args.layout.files.now (λ s. s.now) (drop c.loop-done.done c.args.sessions.now) _
+    (texts_none c.args.sheet.recording.now c.args.sheet.lines.now c.args.layout.form c.args.layout.files.now telling_of (drop c.loop-done.done c.args.sessions.now) _
     (drop_all c.loop-done.done c.args.sessions.now c.loop-done-test.false))

@@ -2,9 +2,8 @@ use Rattle.std.proofs.Common.{Bor, ◌≡◌, ◌∙◌, ap, map, drop}
 use Rattle.std.proofs.lemmas.Result.{IfOk-weaker}
 use Rattle.aud_client.specs.declared.stay.Stay.{Stay}
 use Rattle.aud_check.specs.Window.{positions_received}
-use Rattle.aud_findings.specs.Also.{also_seen, entry_also}
-use Rattle.aud_findings.specs.Received.{tail_positions}
-use Rattle.aud_findings.proofs.ByAccount.{after-first, tail-also}
+use Rattle.aud_findings.specs.Also.{entry_lines, others_seen, told_of}
+use Rattle.aud_findings.proofs.ByAccount.{tail-also}
 use Rattle.aud_findings.proofs.tail.tail_also.Goals as goal
 
 pub returns : goal.returns
@@ -18,6 +17,6 @@ returns c pid account =
     c.as_slice-2.ensures.value ∙ c.in_ok-got.ensures ∙ ap (λ (stays : _). positions_received (map (λ (stay : Bor Stay). stay.now) stays)) c.as_slice.ensures.value in
     IfOk-weaker c.entries_also.result _ _ (λ also h.
     tail-also here lines pid a.client (map (λ stay. stay.now) a.stays.items) a.due.items account.is received owed received_is c.as_slice-3.ensures.value
-    (map also_seen also.items)
-    (h ∙ ap (map (entry_also here lines))
-    (c.after_first.ensures ∙ ap (drop 1) (c.as_slice-4.ensures.value ∙ c.in_ok-tail.ensures) ∙ after-first (tail_positions received owed)))) c.entries_also.ensures
+    (others_seen also)
+    (h ∙ ap (told_of (entry_lines here lines))
+    (c.after_first.ensures ∙ ap (drop 1) (c.as_slice-4.ensures.value ∙ c.in_ok-tail.ensures)))) c.entries_also.ensures

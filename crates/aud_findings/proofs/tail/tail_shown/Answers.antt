@@ -3,9 +3,8 @@ use Rattle.std.proofs.lemmas.Result.{IfOk-weaker}
 use Rattle.aud_client.specs.declared.stay.Stay.{Stay}
 use Rattle.aud_check.specs.Window.{positions_received}
 use Rattle.aud_rows.specs.Seen.{row_seen}
-use Rattle.aud_findings.specs.Received.{tail_positions}
 use Rattle.aud_session_facts.specs.Account.{stays_of}
-use Rattle.aud_findings.proofs.ByAccount.{first-kept, tail-shown}
+use Rattle.aud_findings.proofs.ByAccount.{tail-shown}
 use Rattle.aud_findings.proofs.tail.tail_shown.Goals as goal
 
 pub returns-clause-shown : goal.returns-clause-shown
@@ -20,5 +19,5 @@ returns-clause-shown c pid known =
     tail-shown s.sheet.recording.now s.sheet.lines.now pid a.client (stays_of a) a.due.items known.own.is received owed received_is c.as_slice-2.ensures.value
     a.cert known.once known.own.made s.turns.now known.turns s.tap.now.place known.client s.numbers.now known.numbers
     _ _ refl
-    (c.copied.ensures ∙ c.first.ensures.value ∙ ap (λ xs. slice_get xs 0) (c.deref.ensures.value ∙ c.in_ok-tail.ensures) ∙ first-kept (tail_positions received owed))
+    (c.copied.ensures ∙ c.first.ensures.value ∙ ap (λ xs. slice_get xs 0) (c.deref.ensures.value ∙ c.in_ok-tail.ensures))
     (map row_seen rows.items) h) c.tail_rows.ensures.rows

@@ -4,4 +4,4 @@ use Rattle.aud_explanation.proofs.text.evidence.push_rows.Given as goal
 
 -- the lines of the rows so far
 abbrev pub invariant-loop-row : goal.invariant-loop-row
-invariant-loop-row l = string_bytes l.out ≡ string_bytes l.fn.out ++ flat_map (row_text l.files l.verdict l.width) (take l.row-index l.rows)
+invariant-loop-row l = string_bytes l.out ≡ string_bytes l.fn.out ++ flat_map (row_text l.files l.pid l.verdict l.width) (take l.row-index l.rows)

@@ -4,4 +4,4 @@ use Rattle.aud_explanation.proofs.text.refused.push_refused.Given as goal
 
 -- the refused recoveries so far
 abbrev pub invariant-loop-refused : goal.invariant-loop-refused
-invariant-loop-refused l = string_bytes l.out ≡ string_bytes l.fn.out ++ all_refused_text l.files l.verdict (take l.refused-index l.recoveries)
+invariant-loop-refused l = string_bytes l.out ≡ string_bytes l.fn.out ++ all_refused_text l.files l.pid l.verdict (take l.refused-index l.recoveries)

@@ -1,0 +1,156 @@
+//! Which causes a fault can have, and which of them were refuted.
+ghost use Rattle.std.specs.Prelude.{◌≡◌, ◌++◌, ◌∷◌, [], IfOk, OnOk, map};
+ghost use Rattle.std.specs.List.{filter};
+ghost use Rattle.aud_causes.specs.Candidates.{candidates, candidates_for, is_told, is_untold, refuted, text_of};
+
+use crate::found::CauseFound;
+use aud_cert::Fault;
+use aud_verdict::Verdict;
+use std::alloc::{AllocError, Global};
+
+static NOLOG: [&str; 2] = ["open-not-recorded", "node-not-tapped"];
+
+static CHAIN: [&str; 5] = [
+    "node-not-tapped",
+    "missing-break",
+    "cleared-after-break",
+    "turn-not-stored",
+    "recovered-twice",
+];
+
+static ORDER: [&str; 5] = [
+    "no-start",
+    "restarted-in-old-log",
+    "entries-skipped-by-node",
+    "entry-taken-again",
+    "not-in-stream",
+];
+
+static CLIENT: [&str; 3] = ["two-taps", "no-client-tap", "reply-missing"];
+
+static NAMES: [&str; 2] = ["sid-differs", "namespace-differs"];
+
+static FRAME: [&str; 1] = ["not-a-packet"];
+
+static ORPHAN: [&str; 6] = [
+    "cut-before-reply",
+    "tap-began-late",
+    "after-disconnect",
+    "out-after-answer",
+    "second-connect",
+    "reply-without-pid",
+];
+
+static CONTENT: [&str; 1] = ["altered"];
+
+static EXTRA: [&str; 9] = [
+    "node-behind-break",
+    "rooms-at-break",
+    "offset-of-another-session",
+    "log-ended-early",
+    "late-leave",
+    "before-birth",
+    "extra-live",
+    "join-missing",
+    "leave-missing",
+];
+
+static DOUBLED: [&str; 5] = [
+    "node-behind-break",
+    "sent-again-after-replay",
+    "stale-offset",
+    "body-came-twice",
+    "doubled-live",
+];
+
+static SWAPPED: [&str; 2] = ["node-behind-break", "swapped-live"];
+
+static LOST: [&str; 5] = [
+    "rooms-at-break",
+    "skipped-in-window",
+    "offset-of-another-session",
+    "lost-live",
+    "leave-missing",
+];
+
+static WINDOW: [&str; 4] = [
+    "no-offset",
+    "unknown-offset",
+    "stale-offset",
+    "offset-of-another-session",
+];
+
+/// The names of the causes that such a fault can have, in the order in which those that hold are told. A tail has none.
+fn candidates(fault: &Fault) -> &'static [&'static str]
+    ensures { map text_of result.now ≡ candidates fault.now }
+{
+    match fault {
+        Fault::NoLog => &NOLOG,
+        Fault::Chain => &CHAIN,
+        Fault::Order => &ORDER,
+        Fault::Client => &CLIENT,
+        Fault::Names => &NAMES,
+        Fault::Frame => &FRAME,
+        Fault::Orphan => &ORPHAN,
+        Fault::Content(_) => &CONTENT,
+        Fault::Extra(_) => &EXTRA,
+        Fault::Doubled(_) => &DOUBLED,
+        Fault::Swapped(_) => &SWAPPED,
+        Fault::Lost(_) => &LOST,
+        Fault::Window(_) => &WINDOW,
+        Fault::Tail(_) => &[],
+    }
+}
+
+/// Whether one of the causes has this name.
+fn is_told(told: &[CauseFound], id: &str) -> bool
+    ensures { result ≡ is_told told.now id.now }
+{
+    for cause in told {
+        if cause.id == id {
+            return true;
+        }
+    }
+    false
+}
+
+/// Adds the name, if none of the causes has it.
+fn push_untold(
+    ids: &mut Vec<&'static str>,
+    told: &[CauseFound],
+    id: &'static str,
+) -> Result<(), AllocError>
+    ensures { OnOk result (map text_of ids.new.items
+        ≡ map text_of ids.old.items ++ filter (is_untold told.now) (id.now ∷ [])) }
+{
+    if !is_told(told, id) {
+        ids.push(id)?;
+    }
+    Ok(())
+}
+
+/// Those of the fault, where the verdict is no.
+fn candidates_for(verdict: &Verdict) -> &'static [&'static str]
+    ensures { map text_of result.now ≡ candidates_for verdict.now }
+{
+    match verdict {
+        Verdict::Yes { .. } => &[],
+        Verdict::No(fault) => candidates(fault),
+    }
+}
+
+/// The names of the causes that the session's fault can have and that were refuted, in their order: of those that are
+/// told of it none has such a name. None where the verdict is yes.
+pub fn refuted(
+    alloc: Global,
+    verdict: &Verdict,
+    told: &[CauseFound],
+) -> Result<Vec<&'static str>, AllocError>
+    ensures { IfOk result (λ ids. map text_of ids.items ≡ refuted verdict.now told.now) }
+{
+    let mut ids = Vec::new(alloc);
+    for id in candidates_for(verdict) {
+        push_untold(&mut ids, told, *id)?;
+    }
+    Ok(ids)
+}

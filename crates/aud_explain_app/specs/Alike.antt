@@ -1,0 +1,107 @@
+-- Sessions with the same fault at the same record: the first of them is explained, and its explanation names the others.
+use Rattle.std.specs.Prelude.{ℕ, Bool, false, not, List, [], ◌∷◌, ◌++◌, codes, find, flat_map, length, map, nat_eq, Option, Some, None, option_to_list, slice_get, if◌then◌else◌}
+use Rattle.std.specs.List.{list_any}
+use Rattle.std.specs.Option.{option_and_then, option_map, option_map_or}
+use Rattle.aud_base.specs.Places.{numbers_from, places_where}
+use Rattle.aud_tap.specs.declared.taps.Tap.{Tap}
+use Rattle.aud_node.specs.Cluster.{Cluster, node_log}
+use Rattle.aud_node.specs.Lists.{is_empty}
+use Rattle.aud_node.specs.OwnPlaces.{own_places}
+use Rattle.aud_node.specs.Stream.{Text}
+use Rattle.aud_client.specs.Replies.{is_this, naming_places}
+use Rattle.aud_cert.specs.declared.fault.Fault.{Fault}
+use Rattle.aud_cert.specs.declared.fault.Fault.TheVariants.{Order, Frame, Orphan}
+use Rattle.aud_cert.specs.FaultWord.{fault_word}
+use Rattle.aud_findings.specs.ClientShown.{only_of}
+use Rattle.aud_findings.specs.Order.{is_record_in_order}
+use Rattle.aud_verdict.specs.declared.verdict.SessionVerdict.{SessionVerdict}
+use Rattle.aud_verdict.specs.declared.verdict.Verdict.{Verdict}
+use Rattle.aud_verdict.specs.declared.verdict.Verdict.TheVariants.{Yes, No}
+use Rattle.aud_explain_app.specs.Asked.{has_refused}
+use Rattle.aud_explain_app.specs.declared.alike.Told.{Told}
+
+-- ---- the record at which a fault shows
+
+-- a record of the node's log is out of order
+abbrev pub is_unordered : Cluster → ℕ → Bool
+is_unordered c node = list_any (λ number. not (is_record_in_order c.stream (node_log c node) number)) (numbers_from 0 (length (node_log c node)))
+
+-- the tap whose first record of the fault shows it for all sessions there: of a session's nodes, in the order of the
+-- taps, the first that is out of order; its client's tap, where a record of that is no packet, or nobody knows the
+-- session of an event. Other faults are a session's own
+abbrev pub tap_of : Cluster → Text → Fault → Option ℕ
+tap_of c pid Order = find (is_unordered c) (own_places c pid)
+tap_of c pid Frame = only_of (naming_places c.taps pid)
+tap_of c pid Orphan = only_of (naming_places c.taps pid)
+tap_of c pid fault = None
+
+-- that record, named by the fault and its tap: `ORDER a`
+abbrev pub record_of : Fault → Tap → Text
+record_of fault tap = fault_word fault ++ codes " " ++ tap.name
+
+-- the one at which the fault of the session with this pid shows
+abbrev pub fault_record : Cluster → Text → Fault → Option Text
+fault_record c pid fault = option_map (record_of fault) (option_and_then (slice_get c.taps) (tap_of c pid fault))
+
+-- the same by the verdict: none where it is yes
+abbrev pub verdict_record : Cluster → Text → Verdict → Option Text
+verdict_record c pid (Yes got tail turns) = None
+verdict_record c pid (No fault) = fault_record c pid fault
+
+-- the record that the session may share with others; what one missed whose recovery was refused is its own
+abbrev pub shared_record : Cluster → SessionVerdict → Option Text
+shared_record c session = if has_refused c session.pid then None else verdict_record c session.pid session.verdict
+
+-- ---- sessions that share it
+
+-- the session has this one
+abbrev pub is_at : Cluster → Text → SessionVerdict → Bool
+is_at c spot session = is_this spot (shared_record c session)
+
+-- the numbers of the sessions that have it
+abbrev pub numbers_at : Cluster → List SessionVerdict → Text → List ℕ
+numbers_at c sessions spot = places_where (λ k. option_map_or (is_at c spot) (slice_get sessions k) false) (length sessions)
+
+-- the pid of the session, if there is one
+abbrev pub pid_of : Option SessionVerdict → List Text
+pid_of session = option_to_list (option_map (λ (s : SessionVerdict). s.pid) session)
+
+-- the pids of the sessions with these numbers
+abbrev pub pids_at : List SessionVerdict → List ℕ → List Text
+pids_at sessions numbers = flat_map (λ k. pid_of (slice_get sessions k)) numbers
+
+-- ---- what is told
+
+-- a session that is explained, and the pids of those that its explanation names
+pub record Telling : Type 0 where
+  pub session : SessionVerdict
+  pub alike : List Text
+
+abbrev pub telling_of : Told → Telling
+telling_of told = record { session = told.session.now; alike = map (λ pid. pid.now) told.alike.items }
+
+-- the session, which names nobody
+abbrev pub alone : SessionVerdict → Telling
+alone session = record { session = session; alike = [] }
+
+-- of the sessions with these numbers, which share a record, the first is told, and names the others
+abbrev pub told_first : List SessionVerdict → ℕ → SessionVerdict → List ℕ → List Telling
+told_first sessions number session [] = []
+told_first sessions number session (first ∷ others) = if nat_eq first number then record { session = session; alike = pids_at sessions others } ∷ [] else []
+
+-- what is told of the session with this number, with this record
+abbrev pub told_by : Cluster → List SessionVerdict → ℕ → SessionVerdict → Option Text → List Telling
+told_by c sessions number session None = alone session ∷ []
+told_by c sessions number session (Some spot) = told_first sessions number session (numbers_at c sessions spot)
+
+-- what is told of the session with this number
+abbrev pub told_at : Cluster → List SessionVerdict → ℕ → List Telling
+told_at c sessions number = option_map_or (λ session. told_by c sessions number session (shared_record c session)) (slice_get sessions number) []
+
+-- those that share a record are told once
+abbrev pub told_once : Cluster → List SessionVerdict → List Telling
+told_once c sessions = flat_map (told_at c sessions) (numbers_from 0 (length sessions))
+
+-- what is told of the sessions that are shown: each that the words name by itself, where they name any
+abbrev pub tellings : Cluster → List Text → List SessionVerdict → List Telling
+tellings c pids sessions = if is_empty pids then told_once c sessions else map alone sessions

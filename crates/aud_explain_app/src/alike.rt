@@ -1,0 +1,310 @@
+//! Sessions with the same fault at the same record.
+ghost use Rattle.std.specs.Prelude.{◌≡◌, ◌++◌, IfOk, OnOk, find, map, option_map, slice_get, string_bytes};
+ghost use Rattle.std.specs.Option.{option_and_then, option_copied};
+ghost use Rattle.aud_base.specs.Places.{noted, places_of};
+ghost use Rattle.aud_node.specs.Cluster.{Cluster};
+ghost use Rattle.aud_node.specs.OwnPlaces.{own_places};
+ghost use Rattle.aud_node.specs.Stream.{Text};
+ghost use Rattle.aud_client.specs.Replies.{is_this};
+ghost use Rattle.aud_findings.specs.Prepared.{IsPreparedOf};
+ghost use Rattle.aud_explain_app.specs.Alike.{alone, is_unordered, numbers_at, pid_of, pids_at, record_of, shared_record, tap_of, telling_of, tellings, told_by, told_first, told_once};
+ghost use Rattle.aud_explain_app.specs.Asked.{AreAsked};
+
+use crate::asked::Asked;
+use crate::events::only_client;
+use aud_base::Places;
+use aud_cert::{Fault, fault_word};
+use aud_client::Recording;
+use aud_findings::{Prepared, unordered_of};
+use aud_session_facts::RecordPlace;
+use aud_tap::{Tap, Text};
+use aud_verdict::{SessionVerdict, Verdict};
+use std::alloc::{AllocError, Global};
+use std::hash::RandomState;
+
+/// A session that is explained, and those that its explanation names. Both are borrowed from the sessions.
+#[derive(Drop)]
+pub struct Told<'s> {
+    pub session: &'s SessionVerdict,
+    /// The pids of the later ones with the same fault at the same record.
+    pub alike: Vec<&'s str>,
+}
+
+/// What is told of the sessions that are shown: those with the same fault at the same record once, or each, where these
+/// pids name them. Records are looked up by these keys.
+pub(crate) fn tellings<'s>(
+    recording: &Recording<'_>,
+    alloc: Global,
+    keys: RandomState,
+    prepared: &Prepared,
+    asked: &Asked,
+    pids: &[Text],
+    sessions: &[&'s SessionVerdict],
+) -> Result<Vec<Told<'s>>, AllocError>
+    requires prepared { IsPreparedOf recording.now prepared.now }
+    requires asked { AreAsked recording.now asked.now }
+    ensures { IfOk result (λ told. map telling_of told.items
+        ≡ tellings recording.now pids.now (map (λ s. s.now) sessions.now)) }
+{
+    if pids.is_empty() {
+        return told_once(recording, alloc, keys, prepared, asked, sessions);
+    }
+    each_alone(alloc, sessions)
+}
+
+/// Each of the sessions, which names nobody.
+fn each_alone<'s>(
+    alloc: Global,
+    sessions: &[&'s SessionVerdict],
+) -> Result<Vec<Told<'s>>, AllocError>
+    ensures { IfOk result (λ told. map telling_of told.items
+        ≡ map alone (map (λ s. s.now) sessions.now)) }
+{
+    let mut told = Vec::new(alloc);
+    for session in sessions {
+        told.push(alone(alloc, *session))?;
+    }
+    Ok(told)
+}
+
+/// The session, which names nobody.
+fn alone<'s>(alloc: Global, session: &'s SessionVerdict) -> Told<'s>
+    ensures { telling_of result ≡ alone session.now }
+{
+    Told {
+        session,
+        alike: Vec::new(alloc),
+    }
+}
+
+/// Of the sessions those that share a record once: the first, which names the others.
+fn told_once<'s>(
+    recording: &Recording<'_>,
+    alloc: Global,
+    keys: RandomState,
+    prepared: &Prepared,
+    asked: &Asked,
+    sessions: &[&'s SessionVerdict],
+) -> Result<Vec<Told<'s>>, AllocError>
+    requires prepared { IsPreparedOf recording.now prepared.now }
+    requires asked { AreAsked recording.now asked.now }
+    ensures { IfOk result (λ told. map telling_of told.items
+        ≡ told_once recording.now (map (λ s. s.now) sessions.now)) }
+{
+    let index = by_record(recording, alloc, keys, prepared, asked, sessions)?;
+    let mut told = Vec::new(alloc);
+    for (number, session) in sessions.iter().enumerate() {
+        let at = shared_record(recording, alloc, prepared, asked, *session)?;
+        push_told(
+            &mut told,
+            alloc,
+            &index,
+            sessions,
+            number,
+            *session,
+            at.as_deref(),
+        )?;
+    }
+    Ok(told)
+}
+
+/// The numbers of the sessions by the record that they share.
+fn by_record(
+    recording: &Recording<'_>,
+    alloc: Global,
+    keys: RandomState,
+    prepared: &Prepared,
+    asked: &Asked,
+    sessions: &[&SessionVerdict],
+) -> Result<Places, AllocError>
+    requires prepared { IsPreparedOf recording.now prepared.now }
+    requires asked { AreAsked recording.now asked.now }
+    ensures { IfOk result (λ index. (spot : Text)
+        → places_of index spot ≡ numbers_at recording.now (map (λ s. s.now) sessions.now) spot) }
+{
+    let mut index = Places::new(alloc, keys);
+    for (number, session) in sessions.iter().enumerate() {
+        let at = shared_record(recording, alloc, prepared, asked, *session)?;
+        note_at(&mut index, number, at.as_deref())?;
+    }
+    Ok(index)
+}
+
+/// Notes the number under this record, if there is one.
+fn note_at(index: &mut Places, number: usize, at: Option<&str>) -> Result<(), AllocError>
+    ensures { OnOk result ((spot : Text)
+        → places_of index.new spot
+        ≡ noted number (is_this spot (option_copied at.entry)) (places_of index.old spot)) }
+{
+    match at {
+        Some(at) => index.note(number, at),
+        None => Ok(()),
+    }
+}
+
+/// Adds what is told of the session with this number, with this record, by the numbers of those that share it.
+fn push_told<'s>(
+    told: &mut Vec<Told<'s>>,
+    alloc: Global,
+    index: &Places,
+    sessions: &[&'s SessionVerdict],
+    number: usize,
+    session: &'s SessionVerdict,
+    at: Option<&str>,
+) -> Result<(), AllocError>
+    ensures { (c : Cluster)
+        → ((spot : Text) → places_of index.now spot
+        ≡ numbers_at c (map (λ s. s.now) sessions.now) spot)
+        → OnOk result (map telling_of told.new.items
+        ≡ map telling_of told.old.items
+        ++ told_by c (map (λ s. s.now) sessions.now) number session.now
+        (option_copied at.entry)) }
+{
+    match at {
+        Some(at) => push_first(told, alloc, sessions, number, session, index.of(at)),
+        None => Ok(told.push(alone(alloc, session))?),
+    }
+}
+
+/// Adds the session with this number, and the others with these, if it is the first of them.
+fn push_first<'s>(
+    told: &mut Vec<Told<'s>>,
+    alloc: Global,
+    sessions: &[&'s SessionVerdict],
+    number: usize,
+    session: &'s SessionVerdict,
+    numbers: &[usize],
+) -> Result<(), AllocError>
+    ensures { OnOk result (map telling_of told.new.items
+        ≡ map telling_of told.old.items
+        ++ told_first (map (λ s. s.now) sessions.now) number session.now numbers.now) }
+{
+    match numbers {
+        [first, others @ ..] if *first == number => {
+            let alike = pids_at(alloc, sessions, others)?;
+            Ok(told.push(Told { session, alike })?)
+        }
+        _ => Ok(()),
+    }
+}
+
+/// The pids of the sessions with these numbers.
+fn pids_at<'s>(
+    alloc: Global,
+    sessions: &[&'s SessionVerdict],
+    numbers: &[usize],
+) -> Result<Vec<&'s str>, AllocError>
+    ensures { IfOk result (λ pids. map (λ pid. pid.now) pids.items
+        ≡ pids_at (map (λ s. s.now) sessions.now) numbers.now) }
+{
+    let mut pids = Vec::new(alloc);
+    for number in numbers {
+        push_pid(&mut pids, sessions.get(*number))?;
+    }
+    Ok(pids)
+}
+
+/// Adds the pid of the session, if there is one.
+fn push_pid<'s>(
+    pids: &mut Vec<&'s str>,
+    session: Option<&&'s SessionVerdict>,
+) -> Result<(), AllocError>
+    ensures { OnOk result (map (λ pid. pid.now) pids.new.items
+        ≡ map (λ pid. pid.now) pids.old.items
+        ++ pid_of (option_copied (option_copied session.entry))) }
+{
+    if let Some(session) = session {
+        pids.push(session.pid.as_str())?;
+    }
+    Ok(())
+}
+
+/// The record that the session may share with others.
+fn shared_record(
+    recording: &Recording<'_>,
+    alloc: Global,
+    prepared: &Prepared,
+    asked: &Asked,
+    session: &SessionVerdict,
+) -> Result<Option<String>, AllocError>
+    requires prepared { IsPreparedOf recording.now prepared.now }
+    requires asked { AreAsked recording.now asked.now }
+    ensures { IfOk result (λ at. option_map string_bytes at
+        ≡ shared_record recording.now session.now) }
+{
+    let pid = session.pid.as_str();
+    if asked.is_refused(pid) {
+        return Ok(None);
+    }
+    match &session.verdict {
+        Verdict::Yes { .. } => Ok(None),
+        Verdict::No(fault) => {
+            let place = tap_of(recording, alloc, prepared, pid, fault)?;
+            record_at(alloc, recording.logs().taps(), fault, place)
+        }
+    }
+}
+
+/// The record, by the fault and the tap at this place.
+fn record_at(
+    alloc: Global,
+    taps: &[Tap],
+    fault: &Fault,
+    place: Option<usize>,
+) -> Result<Option<String>, AllocError>
+    ensures { IfOk result (λ at. option_map string_bytes at
+        ≡ option_map (record_of fault.now) (option_and_then (slice_get taps.now) place)) }
+{
+    let Some(place) = place else {
+        return Ok(None);
+    };
+    let Some(tap) = taps.get(place) else {
+        return Ok(None);
+    };
+    let word = fault_word(fault);
+    let name = tap.name.as_str();
+    Ok(Some(format!(in alloc; "{word} {name}")?))
+}
+
+/// The place of the tap whose first record of the fault shows it.
+fn tap_of(
+    recording: &Recording<'_>,
+    alloc: Global,
+    prepared: &Prepared,
+    pid: &str,
+    fault: &Fault,
+) -> Result<Option<usize>, AllocError>
+    requires { IsPreparedOf recording.now prepared.now }
+    ensures { IfOk result (λ place. place ≡ tap_of recording.now pid.now fault.now) }
+{
+    match fault {
+        Fault::Order => unordered_tap(recording, alloc, prepared, pid),
+        Fault::Frame | Fault::Orphan => Ok(only_client(recording, pid)),
+        _ => Ok(None),
+    }
+}
+
+/// The first of the session's nodes that is out of order.
+fn unordered_tap(
+    recording: &Recording<'_>,
+    alloc: Global,
+    prepared: &Prepared,
+    pid: &str,
+) -> Result<Option<usize>, AllocError>
+    requires { IsPreparedOf recording.now prepared.now }
+    ensures { IfOk result (λ node. node
+        ≡ find (is_unordered recording.now) (own_places recording.now pid.now)) }
+{
+    let found = unordered_of(alloc, recording.logs(), prepared, pid)?;
+    Ok(first_node(&found))
+}
+
+/// The node of the first of these records.
+fn first_node(found: &[RecordPlace]) -> Option<usize>
+    ensures { result ≡ option_map (λ at. at.node) (slice_get found.now 0) }
+{
+    match found {
+        [first, ..] => Some(first.node),
+        [] => None,
+    }
+}

@@ -1,0 +1,53 @@
+//! Long lists, of which the middle is left out.
+ghost use Rattle.std.specs.Prelude.{◌≡◌, ◌++◌, IfOk, OnOk, string_bytes};
+ghost use Rattle.aud_explanation.specs.Long.{all_shown, first_shown, last_shown, left_out, more_line};
+
+use std::alloc::{AllocError, Global};
+
+/// How many are left out after the first 100.
+#[tactic(auto, unfolding(crate::specs::Long::left_out))]
+pub(crate) fn left_out<T>(list: &[T]) -> usize
+    ensures { result ≡ left_out list.now }
+{
+    list.len().saturating_sub(200)
+}
+
+/// The first 100, or all where there are fewer.
+#[tactic(auto, unfolding(crate::specs::Long::first_shown))]
+pub(crate) fn first_shown<T>(list: &[T]) -> &[T]
+    ensures { result.now ≡ first_shown list.now }
+{
+    let (front, _) = list.split_at(100usize.min(list.len()));
+    front
+}
+
+/// Those that are shown after the ones that are left out, or after the first 100 where none are.
+#[tactic(auto, unfolding(crate::specs::Long::last_shown))]
+pub(crate) fn last_shown<T>(list: &[T]) -> &[T]
+    ensures { result.now ≡ last_shown list.now }
+{
+    let passed = 100 + list.len().saturating_sub(200);
+    let (_, back) = list.split_at(passed.min(list.len()));
+    back
+}
+
+/// All that are shown.
+pub(crate) fn all_shown<T: Copy>(alloc: Global, list: &[T]) -> Result<Vec<T>, AllocError>
+    ensures { IfOk result (λ shown. shown.items ≡ all_shown list.now) }
+{
+    let mut shown = Vec::new(alloc);
+    shown.extend_from_slice(first_shown(list))?;
+    shown.extend_from_slice(last_shown(list))?;
+    Ok(shown)
+}
+
+/// Puts the line that says how many are left out at the end, where some are.
+pub(crate) fn push_more(out: &mut String, left: usize) -> Result<(), AllocError>
+    ensures { OnOk result (string_bytes out.new ≡ string_bytes out.old ++ more_line left) }
+{
+    if left == 0 {
+        Ok(())
+    } else {
+        writeln!(out, "    .. {left} more ..")
+    }
+}

@@ -1,0 +1,85 @@
+-- All positions that pass a test.
+use Rattle.std.proofs.Common.{◌≡◌, ◌<◌, ◌&&◌, ◌||◌, not, ◌∙◌, ℕ, Bool, true, false, List, [], ◌∷◌, cond, filter, nat_eq, refl, sym, ap, subst}
+use Rattle.std.proofs.lemmas.Bool.{eqb-true}
+use Rattle.std.proofs.lemmas.List.Kept.{AllPairs-filter}
+use Rattle.std.proofs.lemmas.Bool.{eq-eqb}
+use Rattle.std.proofs.lemmas.List.Folds.{Any-from_list_any, list_any-from_Any}
+use Rattle.std.proofs.lemmas.List.Kept.{AllPairs-from_increasing, Contains-dedup_nat, Contains-from_dedup}
+use Rattle.std.proofs.lemmas.List.Sorted.{list_any-IsPermutation}
+use Rattle.std.specs.List.{Contains, dedup}
+use Rattle.std.specs.List.Sorted.{IsPermutation, IsStrictlyIncreasing}
+use Rattle.aud_check.specs.declared.difference.Difference.{Difference}
+use Rattle.aud_check.specs.declared.difference.Difference.TheVariants.{Extra, Doubled, Swapped, Lost}
+use Rattle.aud_findings.specs.Private.Seen.{is_also_by}
+use Rattle.aud_check.specs.Difference.{IsAscending, has_position}
+use Rattle.aud_findings.specs.Also.{AreAllOf, is_also}
+
+and_false : (b : Bool) → (b && false) ≡ false
+and_false true = refl
+and_false false = refl
+
+kept : (e i f t : Bool) → (e ≡ true → t ≡ true) → f ≡ (i && t) → (e || f) ≡ ((e || i) && t)
+kept true i f t same is = sym (same refl)
+kept false i f t same is = is
+
+left : (e i f t : Bool) → (e ≡ true → t ≡ false) → f ≡ (i && t) → f ≡ ((e || i) && t)
+left true i f t same is = is ∙ ap (λ b. i && b) (same refl) ∙ and_false i ∙ sym (same refl)
+left false i f t same is = is
+
+-- of those of a list that pass a test each stands in the list and passes
+pub has_filter : (test : ℕ → Bool) (xs : List ℕ) (p : ℕ) → has_position (filter test xs) p ≡ (has_position xs p && test p)
+has_filter test [] p = refl
+has_filter test (x ∷ xs) p = go (has_filter test xs p) (test x) refl
+  where
+    go : has_position (filter test xs) p ≡ (has_position xs p && test p) → (b : Bool) → test x ≡ b
+        → has_position (cond b (x ∷ filter test xs) (filter test xs)) p ≡ ((nat_eq x p || has_position xs p) && test p)
+    go others true is = kept (nat_eq x p) (has_position xs p) (has_position (filter test xs) p) (test p) (λ e. ap test (sym (eqb-true x p e)) ∙ is) others
+    go others false is = left (nat_eq x p) (has_position xs p) (has_position (filter test xs) p) (test p) (λ e. ap test (sym (eqb-true x p e)) ∙ is) others
+
+-- those of an ascending list that pass a test
+pub all_due : (test : ℕ → Bool) (due : List ℕ) → IsAscending due → AreAllOf (λ p. has_position due p && test p) (filter test due)
+all_due test due up = record { ascending = AllPairs-filter (λ p q. p < q) test due up; all = has_filter test due }
+
+-- so of another difference than that of an entry that was not due
+pub all_also : (received due positions : List ℕ) (difference : Difference) → ((frame position : ℕ) → difference ≡ Extra frame position → ⊥)
+    → AreAllOf (λ p. has_position due p && is_also_by received difference p) positions → AreAllOf (is_also received due difference) positions
+all_also received due positions (Extra frame position) other all = absurd (other frame position refl)
+all_also received due positions (Doubled first again position) other all = all
+all_also received due positions (Swapped frame position later) other all = all
+all_also received due positions (Lost frame position) other all = all
+
+-- and of one of that
+pub all_undue : (received due positions : List ℕ) (difference : Difference) (frame position : ℕ) → difference ≡ Extra frame position
+    → AreAllOf (λ p. has_position received p && is_also_by due difference p) positions → AreAllOf (is_also received due difference) positions
+all_undue received due positions difference frame position is =
+    subst (λ d. AreAllOf (λ p. has_position received p && is_also_by due d p) positions → AreAllOf (is_also received due d) positions) (sym is) (λ all. all)
+
+-- ---- sorted, each once
+
+has_from : (xs : List ℕ) (p : ℕ) → Contains xs p → has_position xs p ≡ true
+has_from xs p w = list_any-from_Any (λ q. nat_eq q p) xs (w.0, p, w.1, w.2, eq-eqb p p refl)
+
+contains_from : (xs : List ℕ) (p : ℕ) → has_position xs p ≡ true → Contains xs p
+contains_from xs p h = let w = Any-from_list_any (λ q. nat_eq q p) xs h in subst (Contains xs) (eqb-true w.1 p w.4) (w.0, w.2, w.3)
+
+both_ways : (a b : Bool) → (a ≡ true → b ≡ true) → (b ≡ true → a ≡ true) → a ≡ b
+both_ways true b there back = sym (there refl)
+both_ways false true there back = back refl
+both_ways false false there back = refl
+
+has_dedup : (xs : List ℕ) (p : ℕ) → has_position (dedup nat_eq xs) p ≡ has_position xs p
+has_dedup xs p =
+    both_ways (has_position (dedup nat_eq xs) p) (has_position xs p)
+    (λ h. has_from xs p (Contains-from_dedup nat_eq xs p (contains_from (dedup nat_eq xs) p h)))
+    (λ h. has_from (dedup nat_eq xs) p (Contains-dedup_nat xs p (contains_from xs p h)))
+
+-- those that pass a test, sorted, each once
+pub all_once : (test : ℕ → Bool) (xs sorted once : List ℕ) → IsPermutation (filter test xs) sorted → once ≡ dedup nat_eq sorted → IsStrictlyIncreasing once
+    → AreAllOf (λ p. has_position xs p && test p) once
+all_once test xs sorted once moved once_is up =
+    record {
+      ascending = AllPairs-from_increasing once up;
+      all = λ p.
+          ap (λ ps. has_position ps p) once_is ∙ has_dedup sorted p
+          ∙ sym (list_any-IsPermutation (λ q. nat_eq q p) (filter test xs) sorted moved) ∙ has_filter test xs p;
+    }

@@ -1,0 +1,78 @@
+-- Ranges of positions.
+use Rattle.std.proofs.Common.{◌≡◌, ◌+◌, ◌-◌, ◌≤◌, ◌∙◌, ◌++◌, ℕ, zero, suc, List, [], ◌∷◌, length, map, drop, refl, sym, ap, arith}
+use Rattle.std.proofs.lemmas.List.{append_assoc, map-append}
+use Rattle.std.proofs.lemmas.Simd.{map-map}
+use Rattle.aud_findings.specs.declared.ranges.Range.{Range}
+use Rattle.aud_findings.specs.Private.InRanges.{range_seen}
+use Rattle.aud_findings.specs.Also.{AlsoSeen, RangeSeen, following, past_ranges, range_also, ranges, told_of}
+
+-- there are no more of them
+pub no_ranges : (positions : List ℕ) → ranges zero positions ≡ []
+unfolding ranges
+no_ranges [] = refl
+no_ranges (p ∷ positions) = refl
+
+pub none_past : (positions : List ℕ) → past_ranges zero positions ≡ positions
+unfolding past_ranges
+none_past [] = refl
+none_past (p ∷ positions) = refl
+
+-- of none there are none
+pub ranges_none : (most : ℕ) → ranges most [] ≡ []
+unfolding ranges
+ranges_none most = refl
+
+pub past_none : (most : ℕ) → past_ranges most [] ≡ []
+unfolding past_ranges
+past_none most = refl
+
+-- the first one
+pub ranges_one : (most p : ℕ) (positions : List ℕ)
+    → ranges (suc most) (p ∷ positions) ≡ record { first = p; last = p + following p positions } ∷ ranges most (drop (following p positions) positions)
+unfolding ranges
+ranges_one most p positions = refl
+
+pub past_one : (most p : ℕ) (positions : List ℕ) → past_ranges (suc most) (p ∷ positions) ≡ past_ranges most (drop (following p positions) positions)
+unfolding past_ranges
+past_one most p positions = refl
+
+-- without any positions none are left either
+pub same_of_none : (more : ℕ) (positions : List ℕ) → length positions ≡ 0 → ranges more positions ≡ ranges (suc more) positions
+unfolding ranges
+same_of_none more [] e = refl
+same_of_none more (p ∷ positions) e = absurd (omega arith)
+
+pub same_past_none : (more : ℕ) (positions : List ℕ) → length positions ≡ 0 → past_ranges more positions ≡ past_ranges (suc more) positions
+unfolding past_ranges
+same_past_none more [] e = refl
+same_past_none more (p ∷ positions) e = absurd (omega arith)
+
+-- the first range was taken, and these positions are after it
+module _ (more p last count : ℕ) (positions others after : List ℕ) (parts : positions ≡ p ∷ others) (last_is : last ≡ p + count)
+    (count_is : count ≡ following p others) (after_is : after ≡ drop count others) where
+  there : after ≡ drop (following p others) others
+  there = after_is ∙ ap (λ n. drop n others) count_is
+
+  pub one_taken : ranges (suc more) positions ≡ record { first = p; last = last } ∷ ranges more after
+  one_taken =
+      ap (ranges (suc more)) parts ∙ ranges_one more p others
+      ∙ sym (λ i. record { first = p; last = (last_is ∙ ap (λ n. p + n) count_is) i } ∷ ranges more (there i))
+
+  pub past_taken : past_ranges more after ≡ past_ranges (suc more) positions
+  past_taken = sym (ap (past_ranges (suc more)) parts ∙ past_one more p others ∙ sym (ap (past_ranges more) there))
+
+-- and was put at the end of these
+pub put_on : (found : List Range) (range : Range) (now : List Range) (rest all : List RangeSeen) → now ≡ found ++ range ∷ [] → all ≡ range_seen range ∷ rest
+    → map range_seen now ++ rest ≡ map range_seen found ++ all
+put_on found range now rest all now_is all_is =
+    ap (λ rs. map range_seen rs ++ rest) now_is ∙ ap (λ rs. rs ++ rest) (map-append range_seen found (range ∷ []))
+    ∙ append_assoc (map range_seen found) (range_seen range ∷ []) rest
+    ∙ ap (λ rs. map range_seen found ++ rs) (sym all_is)
+
+-- what is told of the positions, by their ranges as they are found
+pub told_all : (lines_at : ℕ → List ℕ) (positions : List ℕ) (told : List AlsoSeen) (found : List Range) (left : ℕ)
+    → told ≡ map (λ r. range_also lines_at (range_seen r)) found → map range_seen found ≡ ranges 100 positions → left ≡ length (past_ranges 100 positions)
+    → record { ranges = told; left = left } ≡ told_of lines_at positions
+told_all lines_at positions told found left told_is found_is left_is =
+    let all : told ≡ map (range_also lines_at) (ranges 100 positions) = told_is ∙ sym (map-map (range_also lines_at) range_seen found) ∙ ap (map (range_also lines_at)) found_is in
+    λ i. record { ranges = all i; left = left_is i }
