@@ -113,27 +113,33 @@ fn tap_of<'a>(alloc: Global, bundle: &'a str, pid: &str) -> Result<&'a str, Fail
     Err("no reply")?
 }
 
+/// The client's tap of the first session of a report that is answered no.
+fn spoilt_tap<'a>(alloc: Global, bundle: &'a str, report: &str) -> Result<&'a str, Fail> {
+    for line in report.lines() {
+        if let Some(no) = line.strip_prefix("no ") {
+            return tap_of(alloc, bundle, cut(no, " ").0);
+        }
+    }
+    Err("no session is answered no")?
+}
+
 /// Whether of the sessions of a report exactly those of one client's tap are answered no, each by this word.
 fn is_of_one_tap(alloc: Global, bundle: &str, report: &str, word: &str) -> Result<bool, Fail> {
-    let mut spoilt = "";
+    let spoilt = spoilt_tap(alloc, bundle, report)?;
     for line in report.lines() {
         if let Some(no) = line.strip_prefix("no ") {
             let (pid, fault) = cut(no, " ");
-            let tap = tap_of(alloc, bundle, pid)?;
-            if fault != word || !(spoilt.is_empty() || spoilt == tap) {
+            if fault != word || tap_of(alloc, bundle, pid)? != spoilt {
                 return Ok(false);
             }
-            spoilt = tap;
         }
-    }
-    for line in report.lines() {
         if let Some(yes) = line.strip_prefix("yes ") {
             if tap_of(alloc, bundle, cut(yes, " ").0)? == spoilt {
                 return Ok(false);
             }
         }
     }
-    Ok(!spoilt.is_empty())
+    Ok(true)
 }
 
 #[test]
