@@ -81,7 +81,8 @@ fn all_others(
     difference: Difference,
 ) -> Result<Vec<u64>, AllocError>
     ensures { (against : List ℕ) → AreSeen against seen.now
-        → IfOk result (λ found. found.items ≡ filter (is_also_by against difference) positions.now) }
+        → IfOk result (λ found.
+        found.items ≡ filter (is_also_by against difference) positions.now) }
 {
     let mut found = Vec::new(alloc);
     for position in positions {
