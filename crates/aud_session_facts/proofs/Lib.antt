@@ -1,3 +1,4 @@
+mod Noted
 pub mod Steps
 pub mod HeldLemmas
 pub mod MissedLemmas

@@ -1,5 +1,5 @@
 -- What a client missed where its recovery was refused.
-use Rattle.std.specs.Prelude.{◌≡◌, ℕ, Bool, List, [], ◌∷◌, length, map, Option, Some, None, unwrap_or, nat_lt, nat_le, ◌&&◌, ◌⊎◌}
+use Rattle.std.specs.Prelude.{◌≡◌, ℕ, Bool, not, List, [], ◌∷◌, length, map, Option, Some, None, unwrap_or, nat_lt, nat_le, ◌&&◌, ◌⊎◌}
 use Rattle.std.specs.List.{filter}
 use Rattle.std.specs.Option.{option_or}
 use Rattle.aud_tap.specs.declared.records.StreamRec.{StreamRec}
@@ -12,6 +12,8 @@ use Rattle.aud_rooms.specs.Spans.{first_low}
 use Rattle.aud_rooms.specs.Turns.{Who, Turn, Slice, slice_of, IsChain}
 use Rattle.aud_rooms.specs.TurnsDue.{rooms_at_end}
 use Rattle.aud_cert.specs.declared.fault.Fault.{Fault}
+use Rattle.aud_check.specs.Difference.{has_position}
+use Rattle.aud_check.specs.Window.{positions_received}
 use Rattle.aud_maker.specs.Faults.{HasMakeFault}
 use Rattle.aud_session_facts.specs.Recoveries.{stays_at}
 use Rattle.aud_session_facts.specs.Opening.{opening_cursor}
@@ -57,11 +59,22 @@ pub record IsMissedFrom (c : Cluster) (pid : Text) (last : Option ℕ) (cursor :
   pub chain : IsChain c who turns
   pub is : missed ≡ missed_between c.stream who.nsp (rooms_at_break c who turns) (unwrap_or last (first_low (map (slice_of c) turns))) cursor
 
--- what the client at the place missed where it asked for one session and got another
+-- the positions of all events that came to the client of the tap at this place, in whichever session
+abbrev pub came_at : Cluster → ℕ → List ℕ
+came_at c client = positions_received (stays_at c client)
+
+-- of these positions those at which nothing came
+abbrev pub not_among : List ℕ → List ℕ → List ℕ
+not_among came positions = filter (λ p. not (has_position came p)) positions
+
+-- what the client at the place missed where it asked for one session and got another: of what was missed of the first,
+-- what came to the client in no session
 pub record IsMissed (c : Cluster) (client : ℕ) (asked got : Text) (missed : List ℕ) : Type 0 where
   pub cursor : ℕ
   pub opened : opening_cursor c got ≡ Some cursor
-  pub is_missed : IsMissedFrom c asked (last_received asked (stays_at c client)) cursor missed
+  pub of_session : List ℕ
+  pub is_of_session : IsMissedFrom c asked (last_received asked (stays_at c client)) cursor of_session
+  pub is_missed : missed ≡ not_among (came_at c client) of_session
 
 -- the logs don't tell what was missed: no node opened the session that the client got, or the one that it asked for
 -- has a fault for which it has no certificate

@@ -64,6 +64,7 @@ mod account;
 mod asked;
 mod astray;
 mod at_place;
+mod came;
 mod change;
 mod counts;
 mod due;

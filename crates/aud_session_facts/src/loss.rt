@@ -3,6 +3,7 @@ ghost use Rattle.std.specs.Prelude.{◌≡◌, IfOk, MatchOption, None};
 ghost use Rattle.aud_maker.specs.Made.{IsMade};
 ghost use Rattle.aud_session_facts.specs.Missed.{IsMissed, IsMissedFrom, IsUntold};
 
+use crate::came::not_come;
 use crate::held::spans_held;
 use crate::last::last_received;
 use crate::opened::opened_in;
@@ -15,12 +16,12 @@ use std::alloc::{AllocError, Global};
 
 /// The positions, ascending, of what the client at this place missed where it asked for one session and was given
 /// another: the recoverable entries after the last event that it received of the first, up to the cursor of the node
-/// on which the second opened, that are addressed to the rooms that the first held at its break. Where it received
-/// none, those after the first session's birth.
+/// on which the second opened, that are addressed to the rooms that the first held at its break, and came to it in no
+/// session. Where it received none of the first, those after that session's birth.
 ///
 /// None where the logs don't tell: where the first session has one of the faults `NoLog`, `Chain`, `Order` and
-/// `Client`, or no node opened the second. It costs the first session's own records and stays, and what is addressed to
-/// its rooms.
+/// `Client`, or no node opened the second. It costs the first session's own records, what is addressed to its rooms, and
+/// all that came to the client.
 pub fn missed(
     alloc: Global,
     recording: &Recording<'_>,
@@ -40,7 +41,8 @@ pub fn missed(
         Err(MakeFault::Memory) => return Err(AllocError),
     };
     let last = last_received(alloc, recording, client, asked)?;
-    let missed = missed_from(alloc, recording, &cert, last, cursor)?;
+    let of_session = missed_from(alloc, recording, &cert, last, cursor)?;
+    let missed = not_come(alloc, recording, client, &of_session)?;
     Ok(Some(missed))
 }
 
