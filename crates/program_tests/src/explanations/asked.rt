@@ -3,7 +3,7 @@ use crate::explanations::cases::assert_cases;
 use std::test::Fail;
 
 /// Texts of these cases, each after its name.
-static TEXTS: [&str; 4] = [
+static TEXTS: [&str; 5] = [
     // Session `P` held `r` at its break, and `q` before: of the five entries after its birth one is not recoverable,
     // one is for `q`, one excepts `r`, and one comes after the new session's `open`.
     r#"ROOMS
@@ -105,10 +105,41 @@ c1 {"k":"conn","c":2}
 c1 {"k":"out","t":"40{\"pid\":\"P\",\"offset\":\"o1\"}"}
 c1 {"k":"in","t":"40{\"sid\":\"s2\",\"pid\":\"Q\"}"}
 "#,
+    // The client comes back without asking for `P`, and gets entry 2 in session `Q`; then it asks for `P`, and gets `R`.
+    r#"ELSEWHERE
+st {"k":"tap","v":1,"of":"stream"}
+st {"k":"ev","off":"o1","nsp":"/","text":"2[\"one\",\"o1\"]"}
+st {"k":"ev","off":"o2","nsp":"/","text":"2[\"two\",\"o2\"]"}
+st {"k":"ev","off":"o3","nsp":"/","text":"2[\"three\",\"o3\"]"}
+a {"k":"tap","v":1,"of":"node"}
+a {"k":"start","off":null}
+a {"k":"open","pid":"P","sid":"s1","nsp":"/"}
+a {"k":"take","off":"o1"}
+a {"k":"break","pid":"P","turn":0}
+b {"k":"tap","v":1,"of":"node"}
+b {"k":"start","off":"o1"}
+b {"k":"open","pid":"Q","sid":"s2","nsp":"/"}
+b {"k":"take","off":"o2"}
+b {"k":"gone","pid":"Q"}
+b {"k":"take","off":"o3"}
+b {"k":"open","pid":"R","sid":"s3","nsp":"/"}
+c1 {"k":"tap","v":1,"of":"client"}
+c1 {"k":"conn","c":1}
+c1 {"k":"in","t":"40{\"sid\":\"s1\",\"pid\":\"P\"}"}
+c1 {"k":"in","t":"42[\"one\",\"o1\"]"}
+c1 {"k":"lost"}
+c1 {"k":"conn","c":2}
+c1 {"k":"in","t":"40{\"sid\":\"s2\",\"pid\":\"Q\"}"}
+c1 {"k":"in","t":"42[\"two\",\"o2\"]"}
+c1 {"k":"lost"}
+c1 {"k":"conn","c":3}
+c1 {"k":"out","t":"40{\"pid\":\"P\",\"offset\":\"o1\"}"}
+c1 {"k":"in","t":"40{\"sid\":\"s3\",\"pid\":\"R\"}"}
+"#,
 ];
 
 /// What is written of each of them.
-static CASES: [&str; 8] = [
+static CASES: [&str; 9] = [
     r#"explain
 @REFUSED
 -> Ok(AllYes)
@@ -252,6 +283,25 @@ cause session-over (certain, line 19, of the ask on line 17): The log of a ends 
 do: keep a session that a client may come back to, for as long as it may.
 
 sessions: *"#,
+    // Entry 2 was not missed: it came in the session between.
+    r#"explain
+@ELSEWHERE
+-> Ok(AllYes)
+yes P got=1 tail=0 turns=1 [delivery]
+client c1, namespace /, turns 1, got 1, due 1, tail 0
+    turn 0  a  7 open, cursor 0 == take 1 == 9 break, cursor 1
+    client  19 reply  20 got 1  21 lost  27 asks after 1  28 refused
+refused recovery: got session R, missed 1
+      27 c1  conn 3 asks P after o1
+      28 c1  conn 3 reply, sid s3, pid R
+    missed entry 3 o3
+
+sessions: 3, yes: 3, no: 0
+sessions that no client named: 0
+sessions with a tail: 0, events in tails: 0
+recoveries asked for: 1, granted: 0, refused: 1
+entries of the stream: 3, recoverable: 3
+lines: 28, *"#,
 ];
 
 #[test]
