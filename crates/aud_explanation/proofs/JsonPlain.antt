@@ -30,7 +30,7 @@ use Rattle.aud_explanation.specs.declared.turn.TurnEnd.TheVariants as end
 use Rattle.aud_explanation.specs.ExplainedClass.{class_of_explained}
 use Rattle.aud_explanation.specs.FaultEntry.{fault_off}
 use Rattle.aud_explanation.specs.ShownTail.{shown_tail}
-use Rattle.aud_explanation.specs.JsonValue.{text_or_null, number_or_null}
+use Rattle.aud_explanation.specs.JsonValue.{text_data, text_or_null, number_or_null}
 use Rattle.aud_explanation.specs.Long.{all_shown, left_out}
 use Rattle.aud_explanation.specs.JsonVerdict.{verdict_word, fault_data, off_data, class_data, with_fault, with_verdict}
 use Rattle.aud_explanation.specs.JsonAccount.{with_names, with_client, with_counts, with_account}
@@ -39,8 +39,8 @@ use Rattle.aud_explanation.specs.Record.{record_text, other_session}
 use Rattle.aud_explanation.specs.JsonRow.{role_word, with_row, row_data, with_evidence}
 use Rattle.aud_explanation.specs.JsonTurn.{high_at, lines_data, took_data, turn_data, with_turns}
 use Rattle.aud_explanation.specs.JsonAlso.{also_data, with_also}
-use Rattle.aud_explanation.specs.JsonAlike.{pid_data, with_alike}
-use Rattle.aud_explanation.specs.JsonCause.{cause_data, id_data, of_line, with_causes}
+use Rattle.aud_explanation.specs.JsonAlike.{with_alike}
+use Rattle.aud_explanation.specs.JsonCause.{cause_data, of_line, with_causes}
 use Rattle.aud_explanation.specs.JsonEvent.{after_data, from_data, to_data, event_data, with_events}
 use Rattle.aud_explanation.specs.JsonRefused.{missed_data, all_missed_data, missed_left_data, reply_data, refused_data, with_refused}
 use Rattle.aud_explanation.specs.Json.{explanation_data}
@@ -242,11 +242,11 @@ causes-plain : (causes : List Cause) (refuted : List (Bor (List ℕ))) (ms : Mem
 unfolding with_causes
 causes-plain causes refuted ms rest =
     let m1 : Members = put (codes "causes") (array (items cause_data causes)) ms in
-    put-plain (codes "refuted") (array (items id_data refuted)) m1 (items-plain id_data (λ id. refl) refuted) (put-plain (codes "causes") (array (items cause_data causes)) ms (items-plain cause_data cause-plain causes) rest)
+    put-plain (codes "refuted") (array (items text_data refuted)) m1 (items-plain text_data (λ text. refl) refuted) (put-plain (codes "causes") (array (items cause_data causes)) ms (items-plain cause_data cause-plain causes) rest)
 
 alike-plain : (pids : List (Bor (List ℕ))) (ms : Members) → members_have_float ms ≡ false → members_have_float (with_alike pids ms) ≡ false
 unfolding with_alike
-alike-plain pids ms rest = put-plain (codes "alike") (array (items pid_data pids)) ms (items-plain pid_data (λ pid. refl) pids) rest
+alike-plain pids ms rest = put-plain (codes "alike") (array (items text_data pids)) ms (items-plain text_data (λ text. refl) pids) rest
 
 -- ---- the whole
 

@@ -7,7 +7,7 @@ use Rattle.aud_explanation.specs.declared.cause.Cause.{Cause}
 use Rattle.aud_explanation.specs.declared.cause.CauseOf.{CauseOf}
 use Rattle.aud_explanation.specs.declared.cause.CauseOf.TheVariants.{Fault, Refused}
 use Rattle.aud_explanation.specs.CauseState.{is_certain, state_word}
-use Rattle.aud_explanation.specs.JsonValue.{number_or_null}
+use Rattle.aud_explanation.specs.JsonValue.{number_or_null, text_data}
 
 -- what it is of, in a word
 abbrev pub of_word : CauseOf → List ℕ
@@ -36,10 +36,6 @@ cause_data c =
     (member (codes "todo") (string c.todo.now)
     (member (codes "why") (string c.why.now) no_members)))))
 
--- the name of one that was refuted
-abbrev pub id_data : Bor (List ℕ) → Data
-id_data id = string id.now
-
 -- the causes, and the names of those that were refuted
 unfoldable pub with_causes : List Cause → List (Bor (List ℕ)) → Members → Members
-with_causes causes refuted ms = put (codes "refuted") (array (items id_data refuted)) (put (codes "causes") (array (items cause_data causes)) ms)
+with_causes causes refuted ms = put (codes "refuted") (array (items text_data refuted)) (put (codes "causes") (array (items cause_data causes)) ms)

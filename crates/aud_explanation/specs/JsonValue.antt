@@ -1,7 +1,12 @@
--- Values that may be missing.
+-- Texts, and values that may be missing.
 use Rattle.std.specs.Prelude.{ℕ, List, Option, Some, None}
+use Rattle.std.specs.Borrow.{Bor}
 use Rattle.serde_json.specs.Data.{Data, null, string}
 use Rattle.aud_cert.specs.Text.{whole}
+
+-- a text
+abbrev pub text_data : Bor (List ℕ) → Data
+text_data text = string text.now
 
 -- the text, or `null`
 abbrev pub text_or_null : Option (List ℕ) → Data

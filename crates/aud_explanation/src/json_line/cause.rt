@@ -3,10 +3,10 @@ ghost use Rattle.std.specs.Prelude.{◌≡◌, IfOk, OnOk};
 ghost use Rattle.serde_json.specs.Data.{no_members};
 ghost use Rattle.serde_json.specs.View.{view, items_view, members_view};
 ghost use Rattle.aud_cert.specs.Text.{items};
-ghost use Rattle.aud_explanation.specs.JsonCause.{cause_data, cause_front, id_data, of_line, of_word, with_causes};
+ghost use Rattle.aud_explanation.specs.JsonCause.{cause_data, cause_front, of_line, of_word, with_causes};
 
 use crate::cause::{Cause, CauseOf};
-use crate::json_line::value::{number_or_null, numbers};
+use crate::json_line::value::{number_or_null, numbers, texts};
 use serde_json::{Map, Value, put};
 use std::alloc::{AllocError, Global};
 
@@ -99,16 +99,6 @@ fn cause_values(alloc: Global, causes: &[Cause<'_>]) -> Result<Vec<Value>, Alloc
     Ok(values)
 }
 
-fn id_values(alloc: Global, ids: &[&'static str]) -> Result<Vec<Value>, AllocError>
-    ensures { IfOk result (λ vs. items_view vs.items ≡ items id_data ids.now) }
-{
-    let mut values = Vec::new(alloc);
-    for id in ids {
-        values.push(Value::try_from_str(alloc, *id)?)?;
-    }
-    Ok(values)
-}
-
 /// Puts the causes, and the names of those that were refuted.
 #[tactic(auto, unfolding(crate::specs::JsonCause::with_causes))]
 pub(crate) fn put_causes(
@@ -122,6 +112,6 @@ pub(crate) fn put_causes(
 {
     let values = cause_values(alloc, causes)?;
     put(members, alloc, "causes", Value::Array(values))?;
-    let ids = id_values(alloc, refuted)?;
+    let ids = texts(alloc, refuted)?;
     put(members, alloc, "refuted", Value::Array(ids))
 }

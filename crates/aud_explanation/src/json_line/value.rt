@@ -1,9 +1,9 @@
-//! Values that may be missing, and lists of numbers.
+//! Values that may be missing, and lists of numbers and of texts.
 ghost use Rattle.std.specs.Prelude.{◌≡◌, IfOk};
 ghost use Rattle.std.specs.Option.{option_copied};
 ghost use Rattle.serde_json.specs.View.{view, items_view};
 ghost use Rattle.aud_cert.specs.Text.{items, whole};
-ghost use Rattle.aud_explanation.specs.JsonValue.{text_or_null, number_or_null};
+ghost use Rattle.aud_explanation.specs.JsonValue.{number_or_null, text_data, text_or_null};
 
 use serde_json::Value;
 use std::alloc::{AllocError, Global};
@@ -35,6 +35,17 @@ pub(crate) fn numbers(alloc: Global, numbers: &[u64]) -> Result<Vec<Value>, Allo
     let mut values = Vec::new(alloc);
     for number in numbers {
         values.push(Value::from(*number))?;
+    }
+    Ok(values)
+}
+
+/// The texts, in order.
+pub(crate) fn texts(alloc: Global, texts: &[&str]) -> Result<Vec<Value>, AllocError>
+    ensures { IfOk result (λ vs. items_view vs.items ≡ items text_data texts.now) }
+{
+    let mut values = Vec::new(alloc);
+    for text in texts {
+        values.push(Value::try_from_str(alloc, *text)?)?;
     }
     Ok(values)
 }
