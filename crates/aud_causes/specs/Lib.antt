@@ -22,6 +22,7 @@ pub mod Names
 pub mod Orphans
 pub mod Turns
 pub mod LastTurn
+pub mod TakenBack
 pub mod Cleared
 pub mod Twice
 pub mod Chain

@@ -1,5 +1,5 @@
 -- What the refusal of a recovery may come from.
-use Rattle.std.specs.Prelude.{ℕ, ◌-◌, ◌||◌, List, [], ◌∷◌, length, Option, Some, None, is_some, if◌then◌else◌, nat_le, nat_lt}
+use Rattle.std.specs.Prelude.{ℕ, ◌-◌, ◌||◌, List, [], ◌∷◌, length, Option, Some, None, is_some, if◌then◌else◌, nat_le, nat_lt, slice_get}
 use Rattle.std.specs.Option.{option_map, option_and_then}
 use Rattle.aud_tap.specs.declared.records.StreamRec.{StreamRec}
 use Rattle.aud_node.specs.Cluster.{Cluster}
@@ -17,6 +17,7 @@ use Rattle.aud_causes.specs.declared.cause.Cause.{Cause}
 use Rattle.aud_causes.specs.declared.cause.Cause.TheVariants.{NoOffset, UnknownOffset, SessionOver, NodeEndedInTurn, NeverBroken, AskedTooEarly}
 use Rattle.aud_causes.specs.Delivery.{cause_if, held}
 use Rattle.aud_causes.specs.LastTurn.{is_ended, last_begin, last_turn}
+use Rattle.aud_causes.specs.TakenBack.{marks_before}
 use Rattle.aud_causes.specs.Turns.{is_broken}
 
 -- ---- the offset
@@ -101,11 +102,12 @@ asked_too_early c marks opening =
 
 -- ---- the causes, in their order
 
--- the offset; the session was over; a node's log ends in it; it had not broken; the client asked too early. These are the records that begin and
--- end the turns of the session that was asked for, and of the one that the client got
-abbrev pub refused_causes : Cluster → Option Cause → List TurnMark → List TurnMark → List Cause
-refused_causes c offset marks opening =
-    held (offset ∷ session_over marks ∷ node_ended c marks ∷ never_broken marks ∷ asked_too_early c marks opening ∷ [])
+-- the offset; the session was over; a node's log ends in it; it had not broken; the client asked too early. These are the
+-- causes of the offset and of asking too early, and the records that begin and end the session's turns, where the last of
+-- these is one before the client asked
+abbrev pub refused_causes : Cluster → Option Cause → Option Cause → List TurnMark → List Cause
+refused_causes c offset early marks =
+    held (offset ∷ session_over marks ∷ node_ended c marks ∷ never_broken marks ∷ early ∷ [])
 
 -- the session that a reply names; the empty text where there is none
 abbrev pub got_of : Option ReplySeen → Text
@@ -116,16 +118,24 @@ got_of (Some reply) = pid_or_empty reply.pid
     pid_or_empty None = []
     pid_or_empty (Some pid) = pid
 
--- where the client asked for this, and got this session
-abbrev pub asked_causes : Cluster → AskedSeen → Text → List Cause
-asked_causes c asked got = refused_causes c (offset_cause c.stream asked.offset) (turn_marks c asked.pid) (turn_marks c got)
+-- where the client asked for this in the stay with this number, and got this session
+abbrev pub asked_causes : Cluster → List StaySeen → ℕ → AskedSeen → Text → List Cause
+asked_causes c stays number asked got =
+    refused_causes c
+    (offset_cause c.stream asked.offset)
+    (asked_too_early c (turn_marks c asked.pid) (turn_marks c got))
+    (marks_before (turn_marks c asked.pid) stays number asked.pid)
 
 -- where this was asked for
-abbrev pub causes_of_asked : Cluster → Option AskedSeen → Text → List Cause
-causes_of_asked c None got = []
-causes_of_asked c (Some asked) got = asked_causes c asked got
+abbrev pub causes_of_asked : Cluster → List StaySeen → ℕ → Option AskedSeen → Text → List Cause
+causes_of_asked c stays number None got = []
+causes_of_asked c stays number (Some asked) got = asked_causes c stays number asked got
 
--- of the stay in which the recovery was refused, if there is one
-abbrev pub refusal_causes : Cluster → Option StaySeen → List Cause
-refusal_causes c None = []
-refusal_causes c (Some stay) = causes_of_asked c stay.asked (got_of stay.reply)
+-- of the stay with this number, if there is one
+abbrev pub stay_causes : Cluster → List StaySeen → ℕ → Option StaySeen → List Cause
+stay_causes c stays number None = []
+stay_causes c stays number (Some stay) = causes_of_asked c stays number stay.asked (got_of stay.reply)
+
+-- where the recovery was refused in the stay with this number, of these of its client's tap
+abbrev pub refusal_causes : Cluster → List StaySeen → ℕ → List Cause
+refusal_causes c stays number = stay_causes c stays number (slice_get stays number)

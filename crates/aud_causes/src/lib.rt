@@ -46,6 +46,7 @@ mod record_at;
 mod recorded;
 mod refusal;
 mod state;
+mod taken_back;
 mod turns;
 mod twice;
 mod why;

@@ -1,23 +1,26 @@
 //! What the refusal of a recovery may come from.
-ghost use Rattle.std.specs.Prelude.{◌≡◌, ◌∷◌, [], IfOk, None, Some, map, slice_get, true};
+ghost use Rattle.std.specs.Prelude.{◌≡◌, ◌∷◌, [], IfOk, None, Some, map, true};
 ghost use Rattle.aud_session_facts.specs.Recoveries.{stays_at};
 ghost use Rattle.aud_rows.specs.ClientPlaces.{AreOf};
 ghost use Rattle.aud_causes.specs.Found.{cause_seen, shown_causes};
-ghost use Rattle.aud_causes.specs.Refusals.{asked_causes, asked_too_early, broke_past, cursor_there, first_open, got_of, last_break, last_record, never_broken, node_ended, offset_cause, refusal_causes, refused_causes, session_over};
+ghost use Rattle.aud_causes.specs.Refusals.{asked_causes, asked_too_early, broke_past, cursor_there, first_open, got_of, last_break, last_record, never_broken, node_ended, offset_cause, refusal_causes, refused_causes, session_over, stay_causes};
+ghost use Rattle.aud_causes.specs.TakenBack.{marks_before};
 
 use crate::cause::Cause;
 use crate::found::{CauseFound, shown_causes};
 use crate::last_turn::{is_broken, is_ended, last_begin, last_turn};
 use crate::list::held;
-use aud_client::{Asked, Stay};
+use crate::taken_back::marks_before;
+use aud_client::{Asked, Recording, Stay};
 use aud_node::{Logs, Stream};
 use aud_rows::{ClientPlaces, Sheet};
-use aud_session_facts::{Mark, RecordPlace, Recovery, TurnMark, stay_of, turn_marks};
+use aud_session_facts::{Mark, RecordPlace, Recovery, TurnMark, turn_marks};
 use std::alloc::{AllocError, Global};
 
 /// What the refusal of this recovery may come from: of the causes that it can have those that hold, in a fixed order.
 /// One is certain exactly where it is the only one. `tap` is that of the client. It costs the records that begin and end
-/// the turns of two sessions: of the one that was asked for, and of the one that the client got.
+/// the turns of two sessions: of the one that was asked for, and of the one that the client got; and the stays of the
+/// client's tap.
 pub fn causes_of_refusal<'r>(
     alloc: Global,
     sheet: &Sheet<'r, '_>,
@@ -28,22 +31,61 @@ pub fn causes_of_refusal<'r>(
     ensures { IfOk result (λ causes. map cause_seen causes.items
         ≡ shown_causes sheet.now.recording.now sheet.now.lines.now (Some tap.now.place)
         (recovery.now.stay ∷ []) true (refusal_causes sheet.now.recording.now
-        (slice_get (stays_at sheet.now.recording.now recovery.now.client) recovery.now.stay))) }
+        (stays_at sheet.now.recording.now recovery.now.client) recovery.now.stay)) }
 {
-    let Some(stay) = stay_of(sheet.recording, recovery) else {
-        return Ok(Vec::new(alloc));
-    };
-    let found = stay_causes(alloc, sheet.recording.logs(), stay)?;
+    let found = refusal_causes(alloc, sheet.recording, recovery)?;
     let numbers = [recovery.stay];
     shown_causes(alloc, sheet, Some(tap), &numbers, true, found.as_slice())
 }
 
-/// The causes for the stay in which it was refused.
-fn stay_causes(alloc: Global, logs: &Logs<'_>, stay: &Stay<'_>) -> Result<Vec<Cause>, AllocError>
-    ensures { IfOk result (λ found. found.items ≡ refusal_causes logs.now (Some stay.now)) }
+/// The causes that hold.
+fn refusal_causes(
+    alloc: Global,
+    recording: &Recording<'_>,
+    recovery: &Recovery,
+) -> Result<Vec<Cause>, AllocError>
+    ensures { IfOk result (λ found. found.items ≡ refusal_causes recording.now
+        (stays_at recording.now recovery.now.client) recovery.now.stay) }
+{
+    match recording.client(recovery.client) {
+        Some(client) => causes_in(
+            alloc,
+            recording.logs(),
+            &client.transcript().stays,
+            recovery.stay,
+        ),
+        None => Ok(Vec::new(alloc)),
+    }
+}
+
+/// Those where it was refused in the stay with this number, of these of its client's tap.
+fn causes_in(
+    alloc: Global,
+    logs: &Logs<'_>,
+    stays: &[Stay<'_>],
+    number: usize,
+) -> Result<Vec<Cause>, AllocError>
+    ensures { IfOk result (λ found. found.items ≡ refusal_causes logs.now stays.now number) }
+{
+    match stays.get(number) {
+        Some(stay) => stay_causes(alloc, logs, stays, number, stay),
+        None => Ok(Vec::new(alloc)),
+    }
+}
+
+/// The causes for the stay with this number, in which it was refused.
+fn stay_causes(
+    alloc: Global,
+    logs: &Logs<'_>,
+    stays: &[Stay<'_>],
+    number: usize,
+    stay: &Stay<'_>,
+) -> Result<Vec<Cause>, AllocError>
+    ensures { IfOk result (λ found. found.items
+        ≡ stay_causes logs.now stays.now number (Some stay.now)) }
 {
     match &stay.asked {
-        Some(asked) => asked_causes(alloc, logs, asked, got_of(stay)),
+        Some(asked) => asked_causes(alloc, logs, stays, number, asked, got_of(stay)),
         None => Ok(Vec::new(alloc)),
     }
 }
@@ -61,31 +103,38 @@ fn got_of<'s>(stay: &'s Stay<'_>) -> &'s str
     }
 }
 
-/// The causes where the client asked for this, and got this session.
+/// The causes where the client asked for this in the stay with this number, and got this session.
 fn asked_causes(
     alloc: Global,
     logs: &Logs<'_>,
+    stays: &[Stay<'_>],
+    number: usize,
     asked: &Asked,
     got: &str,
 ) -> Result<Vec<Cause>, AllocError>
-    ensures { IfOk result (λ found. found.items ≡ asked_causes logs.now asked.now got.now) }
+    ensures { IfOk result (λ found. found.items
+        ≡ asked_causes logs.now stays.now number asked.now got.now) }
 {
-    let marks = turn_marks(alloc, logs, asked.pid.as_str())?;
+    let pid = asked.pid.as_str();
+    let marks = turn_marks(alloc, logs, pid)?;
     let opening = turn_marks(alloc, logs, got)?;
     let offset = offset_cause(logs.stream(), asked);
-    refused_causes(alloc, logs, offset, marks.as_slice(), opening.as_slice())
+    let early = asked_too_early(logs, &marks, &opening);
+    let before = marks_before(&marks, stays, number, pid);
+    refused_causes(alloc, logs, offset, early, before)
 }
 
-/// Those of the offset and of the records that begin and end the turns of the two sessions.
+/// Those of the offset and of asking too early, and those by the records that begin and end the session's turns before
+/// the client asked.
 fn refused_causes(
     alloc: Global,
     logs: &Logs<'_>,
     offset: Option<Cause>,
+    early: Option<Cause>,
     marks: &[TurnMark],
-    opening: &[TurnMark],
 ) -> Result<Vec<Cause>, AllocError>
     ensures { IfOk result (λ found. found.items
-        ≡ refused_causes logs.now offset marks.now opening.now) }
+        ≡ refused_causes logs.now offset early marks.now) }
 {
     held(
         alloc,
@@ -94,7 +143,7 @@ fn refused_causes(
             session_over(marks),
             node_ended(logs, marks),
             never_broken(marks),
-            asked_too_early(logs, marks, opening),
+            early,
         ],
     )
 }

@@ -1,5 +1,5 @@
 -- The recoveries of a session that were refused.
-use Rattle.std.specs.Prelude.{◌≡◌, ◌∷◌, [], List, MatchOption, map, None, Some, slice_get, true}
+use Rattle.std.specs.Prelude.{◌≡◌, ◌∷◌, [], List, MatchOption, map, None, Some, true}
 use Rattle.aud_node.specs.Cluster.{Cluster}
 use Rattle.aud_causes.specs.Found.{cause_seen, shown_causes}
 use Rattle.aud_causes.specs.Refusals.{refusal_causes}
@@ -21,4 +21,4 @@ pub record IsRefusedTold (c : Cluster) (lines : List TapLines) (recovery : Recov
   pub ask_is_true : MatchOption told.shown (Unit {0}) (λ (shown : RefusedShown). IsTrueRow c lines shown.ask)
   pub reply_is_true : MatchOption told.shown (Unit {0}) (λ (shown : RefusedShown). MatchOption shown.reply (Unit {0}) (IsTrueRow c lines))
   pub causes : map cause_seen told.causes.items
-      ≡ shown_causes c lines (Some recovery.client) (recovery.stay ∷ []) true (refusal_causes c (slice_get (stays_at c recovery.client) recovery.stay))
+      ≡ shown_causes c lines (Some recovery.client) (recovery.stay ∷ []) true (refusal_causes c (stays_at c recovery.client) recovery.stay)

@@ -3,7 +3,7 @@ use crate::explanations::cases::assert_cases;
 use std::test::Fail;
 
 /// Texts of these cases, each after its name.
-static TEXTS: [&str; 5] = [
+static TEXTS: [&str; 7] = [
     // Session `P` held `r` at its break, and `q` before: of the five entries after its birth one is not recoverable,
     // one is for `q`, one excepts `r`, and one comes after the new session's `open`.
     r#"ROOMS
@@ -105,6 +105,53 @@ c1 {"k":"conn","c":2}
 c1 {"k":"out","t":"40{\"pid\":\"P\",\"offset\":\"o1\"}"}
 c1 {"k":"in","t":"40{\"sid\":\"s2\",\"pid\":\"Q\"}"}
 "#,
+    // The node takes `P` back and sends an event, and the connection is cut before the reply.
+    r#"CUT
+st {"k":"tap","v":1,"of":"stream"}
+st {"k":"ev","off":"o1","nsp":"/","text":"2[\"one\",\"o1\"]"}
+st {"k":"ev","off":"o2","nsp":"/","text":"2[\"two\",\"o2\"]"}
+a {"k":"tap","v":1,"of":"node"}
+a {"k":"start","off":null}
+a {"k":"open","pid":"P","sid":"s1","nsp":"/"}
+a {"k":"take","off":"o1"}
+a {"k":"break","pid":"P","turn":0}
+a {"k":"take","off":"o2"}
+a {"k":"back","pid":"P","turn":1}
+c1 {"k":"tap","v":1,"of":"client"}
+c1 {"k":"conn","c":1}
+c1 {"k":"in","t":"40{\"sid\":\"s1\",\"pid\":\"P\"}"}
+c1 {"k":"in","t":"42[\"one\",\"o1\"]"}
+c1 {"k":"lost"}
+c1 {"k":"conn","c":2}
+c1 {"k":"out","t":"40{\"pid\":\"P\",\"offset\":\"o1\"}"}
+c1 {"k":"in","t":"42[\"two\",\"o2\"]"}
+c1 {"k":"lost"}
+"#,
+    // The client asks for `P` twice before it gets it, and the node takes it back once.
+    r#"TWICE
+st {"k":"tap","v":1,"of":"stream"}
+st {"k":"ev","off":"o1","nsp":"/","text":"2[\"one\",\"o1\"]"}
+a {"k":"tap","v":1,"of":"node"}
+a {"k":"start","off":null}
+a {"k":"open","pid":"P","sid":"s1","nsp":"/"}
+a {"k":"take","off":"o1"}
+a {"k":"break","pid":"P","turn":0}
+a {"k":"back","pid":"P","turn":1}
+c1 {"k":"tap","v":1,"of":"client"}
+c1 {"k":"conn","c":1}
+c1 {"k":"in","t":"40{\"sid\":\"s1\",\"pid\":\"P\"}"}
+c1 {"k":"in","t":"42[\"one\",\"o1\"]"}
+c1 {"k":"lost"}
+c1 {"k":"conn","c":2}
+c1 {"k":"out","t":"40{\"pid\":\"P\",\"offset\":\"o1\"}"}
+c1 {"k":"lost"}
+c1 {"k":"conn","c":3}
+c1 {"k":"out","t":"40{\"pid\":\"P\",\"offset\":\"o1\"}"}
+c1 {"k":"lost"}
+c1 {"k":"conn","c":4}
+c1 {"k":"out","t":"40{\"pid\":\"P\",\"offset\":\"o1\"}"}
+c1 {"k":"in","t":"40{\"sid\":\"s1\",\"pid\":\"P\"}"}
+"#,
     // The client comes back without asking for `P`, and gets entry 2 in session `Q`; then it asks for `P`, and gets `R`.
     r#"ELSEWHERE
 st {"k":"tap","v":1,"of":"stream"}
@@ -139,7 +186,7 @@ c1 {"k":"in","t":"40{\"sid\":\"s3\",\"pid\":\"R\"}"}
 ];
 
 /// What is written of each of them.
-static CASES: [&str; 9] = [
+static CASES: [&str; 12] = [
     r#"explain
 @REFUSED
 -> Ok(AllYes)
@@ -281,6 +328,56 @@ refused recovery: got session Q, missed 0
       18 c1  conn 2 reply, sid s2, pid Q
 cause session-over (certain, line 19, of the ask on line 17): The log of a ends the session.
 do: keep a session that a client may come back to, for as long as it may.
+
+sessions: *"#,
+    // The log ends in the turn that the unanswered recovery began.
+    r#"explain
+@CUT
+-> Ok(SomeNo)
+no P ORPHAN [packets]
+client c1, namespace /, connection 2, turns 2, delivery not judged
+    line tap  record
+      17 c1   conn 2 asks P after o1
+      18 c1   conn 2 got 2 o2  <- of no known session
+      19 c1   conn 2 lost  later
+    turn 0  a  6 open, cursor 0 == take 1 == 8 break, cursor 1
+    turn 1  a  10 back, cursor 2 == 10 log ends, cursor 2
+    client  13 reply  14 got 1  15 lost  17 asks after 1  18 got 2  19 lost
+refused recovery: got no session, missed: not known
+      17 c1  conn 2 asks P after o1
+cause cut-before-reply (certain, line 17): The client asked for a session, and events came, but no
+        reply did.
+do: nothing, where the client came back; else look at why the connection was cut.
+
+sessions: *"#,
+    // The client comes back, and the session ends after that.
+    r#"explain
+@CUT
+a {"k":"break","pid":"P","turn":1}
+a {"k":"back","pid":"P","turn":2}
+c1 {"k":"conn","c":3}
+c1 {"k":"out","t":"40{\"pid\":\"P\",\"offset\":\"o2\"}"}
+c1 {"k":"in","t":"40{\"sid\":\"s1\",\"pid\":\"P\"}"}
+a {"k":"gone","pid":"P"}
+-> Ok(SomeNo)
+no P ORPHAN [packets]
+*
+refused recovery: got no session, missed: not known
+      17 c1  conn 2 asks P after o1
+cause cut-before-reply (certain, line 17): The client asked for a session, and events came, but no
+        reply did.
+do: nothing, where the client came back; else look at why the connection was cut.
+
+sessions: *"#,
+    r#"explain
+@TWICE
+-> Ok(AllYes)
+yes P got=1 tail=0 turns=2 [delivery]
+*
+refused recovery: got no session, missed: not known
+      15 c1  conn 2 asks P after o1
+refused recovery: got no session, missed: not known
+      18 c1  conn 3 asks P after o1
 
 sessions: *"#,
     // Entry 2 was not missed: it came in the session between.
