@@ -2,3 +2,4 @@ mod AtBreakLemmas
 mod Told
 mod Sure
 mod TurnLemmas
+mod ItemLemmas

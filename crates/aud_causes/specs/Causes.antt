@@ -35,7 +35,6 @@ AreNumbersAt c (Some client) pid numbers = numbers ≡ numbers_naming pid (stays
 abbrev pub has_others : Fault → Bool
 has_others fault.NoLog = false
 has_others fault.Frame = false
-has_others (fault.Content off) = false
 has_others _ = true
 
 -- these are the causes of the fault, as they are told

@@ -16,6 +16,8 @@ pub mod AtBreak
 pub mod Bodies
 pub mod Leavable
 pub mod Differences
+pub mod SameJson
+pub mod Contents
 pub mod Windows
 pub mod Logs
 pub mod Names

@@ -1,4 +1,4 @@
--- What a recovery that was asked for where it does not fit may come from; and an event that isn't its entry.
+-- What a recovery that was asked for where it does not fit may come from.
 use Rattle.std.specs.Prelude.{ℕ, List, [], ◌∷◌, Option, Some, None, slice_get}
 use Rattle.std.specs.Option.{option_map, option_and_then}
 use Rattle.aud_tap.specs.declared.records.StreamRec.{StreamRec}
@@ -6,9 +6,8 @@ use Rattle.aud_client.specs.StaySeen.{StaySeen}
 use Rattle.aud_check.specs.declared.window.BadWindow.{BadWindow}
 use Rattle.aud_check.specs.declared.window.Misfit.{Misfit}
 use Rattle.aud_check.specs.declared.window.Misfit.TheVariants as misfit
-use Rattle.aud_check.specs.declared.content.Altered.{Altered as AlteredFrame}
 use Rattle.aud_causes.specs.declared.cause.Cause.{Cause}
-use Rattle.aud_causes.specs.declared.cause.Cause.TheVariants.{NoOffset, UnknownOffset, StaleOffset, Altered}
+use Rattle.aud_causes.specs.declared.cause.Cause.TheVariants.{NoOffset, UnknownOffset, StaleOffset}
 use Rattle.aud_causes.specs.Facts.{asked_after}
 use Rattle.aud_causes.specs.Delivery.{held}
 use Rattle.aud_causes.specs.Differences.{offset_of_another}
@@ -34,7 +33,3 @@ window_causes stream stays due window =
     held
     (by_misfit window (asked_after stream (slice_get stays window.stay))
     ∷ other_session_of due window.stay (asked_after stream (slice_get stays window.stay)) ∷ [])
-
--- of an event that isn't its entry
-abbrev pub altered_causes : AlteredFrame → List Cause
-altered_causes altered = Altered altered.frame altered.part ∷ []

@@ -7,7 +7,7 @@ use Rattle.aud_causes.specs.declared.why.Figure.TheVariants.{Name, Number, Nth}
 use Rattle.aud_causes.specs.Filled.{figure_text, filled}
 use Rattle.aud_causes.specs.NoPacket.{advice, no_packet_figures, no_packet_words}
 use Rattle.aud_causes.specs.declared.cause.Cause.{Cause}
-use Rattle.aud_causes.specs.declared.cause.Cause.TheVariants.{NodeBehindBreak, SentAgainAfterReplay, StaleOffset, BodyCameTwice, OffsetOfAnotherSession, UnknownOffset, NoOffset, RoomsAtBreak, SkippedInWindow, LostLive, DoubledLive, SwappedLive, Altered, LogEndedEarly, LateLeave, BeforeBirth, ExtraLive, JoinMissing, LeaveMissing, MissingBreak, ClearedAfterBreak, TurnNotStored, RecoveredTwice, OpenNotRecorded, NodeNotTapped, NoStart, RestartedInOldLog, EntriesSkippedByNode, EntryTakenAgain, NotInStream, TwoTaps, NoClientTap, ReplyMissing, SidDiffers, NamespaceDiffers, NotAPacket, TapBeganLate, CutBeforeReply, ReplyWithoutPid, OutAfterAnswer, SecondConnect, AfterDisconnect, SessionOver, NodeEndedInTurn, NeverBroken, AskedTooEarly}
+use Rattle.aud_causes.specs.declared.cause.Cause.TheVariants.{NodeBehindBreak, SentAgainAfterReplay, StaleOffset, BodyCameTwice, OffsetOfAnotherSession, UnknownOffset, NoOffset, RoomsAtBreak, SkippedInWindow, LostLive, DoubledLive, SwappedLive, AnotherEncoder, AttachmentsReordered, AnotherEvent, Altered, LogEndedEarly, LateLeave, BeforeBirth, ExtraLive, JoinMissing, LeaveMissing, MissingBreak, ClearedAfterBreak, TurnNotStored, RecoveredTwice, OpenNotRecorded, NodeNotTapped, NoStart, RestartedInOldLog, EntriesSkippedByNode, EntryTakenAgain, NotInStream, TwoTaps, NoClientTap, ReplyMissing, SidDiffers, NamespaceDiffers, NotAPacket, TapBeganLate, CutBeforeReply, ReplyWithoutPid, OutAfterAnswer, SecondConnect, AfterDisconnect, SessionOver, NodeEndedInTurn, NeverBroken, AskedTooEarly}
 
 -- the name of the cause, for scripts
 abbrev pub id_text : Cause → List ℕ
@@ -23,6 +23,9 @@ id_text (SkippedInWindow stay after low) = codes "skipped-in-window"
 id_text (LostLive frame) = codes "lost-live"
 id_text (DoubledLive first again) = codes "doubled-live"
 id_text (SwappedLive frame later) = codes "swapped-live"
+id_text (AnotherEncoder frame part) = codes "another-encoder"
+id_text (AttachmentsReordered frame) = codes "attachments-reordered"
+id_text (AnotherEvent frame) = codes "another-event"
 id_text (Altered frame part) = codes "altered"
 id_text (LogEndedEarly last high) = codes "log-ended-early"
 id_text (LateLeave leave) = codes "late-leave"
@@ -72,7 +75,10 @@ todo_text (SkippedInWindow stay after low) = codes "look at how the node reads t
 todo_text (LostLive frame) = codes "look at what stands between the node and the client, and at what the node sent."
 todo_text (DoubledLive first again) = codes "look at what stands between the node and the client, and at what the node sent."
 todo_text (SwappedLive frame later) = codes "look at what stands between the node and the client, and at what the node sent."
-todo_text (Altered frame part) = codes "look at what stands between the node and the client; let the stream's tap write as the nodes do."
+todo_text (AnotherEncoder frame part) = codes "let the stream's tap write each event as the nodes do, byte for byte."
+todo_text (AttachmentsReordered frame) = codes "look at what stands between the node and the client: it has to keep the order of messages."
+todo_text (AnotherEvent frame) = codes "let no event but those of the stream end in a text that is an offset."
+todo_text (Altered frame part) = codes "look at what stands between the node and the client."
 todo_text (LogEndedEarly last high) = codes "write a node's log unbuffered, and stop the nodes after the clients."
 todo_text (LateLeave leave) = codes "send an entry by the rooms that the session holds when the node takes it."
 todo_text (BeforeBirth begin low) = codes "send a session nothing that the node took before it opened the session."
@@ -136,6 +142,9 @@ why_words (SkippedInWindow stay after low) = codes "The entry is one of those to
 why_words (LostLive frame) = codes "The node took the entry while the client was connected, and no frame of it came."
 why_words (DoubledLive first again) = codes "No recovery stands between the two frames: the entry came twice while the client was connected."
 why_words (SwappedLive frame later) = codes "No recovery stands between the two frames: they changed places while the client was connected."
+why_words (AnotherEncoder frame part) = codes "The event's text parts from its entry's at byte #, and is the same JSON."
+why_words (AttachmentsReordered frame) = codes "The event has its entry's attachments, in another order."
+why_words (AnotherEvent frame) = codes "The event has another name than its entry, or another number of arguments."
 why_words (Altered frame part) = part_words part
 why_words (LogEndedEarly last high) = codes "The log of # ends in the session's last turn; the turns reach entry #."
 why_words (LateLeave leave) = codes "The session had left a room of the entry before it reached the entry."
@@ -179,6 +188,7 @@ why_figures (StaleOffset stay after) = Number after ∷ []
 why_figures (OffsetOfAnotherSession stay after) = Number after ∷ []
 why_figures (RoomsAtBreak stay after low) = Number after ∷ Number low ∷ []
 why_figures (SkippedInWindow stay after low) = Number after ∷ Number low ∷ []
+why_figures (AnotherEncoder frame part) = part_figures part
 why_figures (Altered frame part) = part_figures part
 why_figures (LogEndedEarly last high) = Name ∷ Number high ∷ []
 why_figures (BeforeBirth begin low) = Name ∷ Number low ∷ []

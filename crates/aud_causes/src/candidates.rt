@@ -41,7 +41,12 @@ static ORPHAN: [&str; 6] = [
     "reply-without-pid",
 ];
 
-static CONTENT: [&str; 1] = ["altered"];
+static CONTENT: [&str; 4] = [
+    "another-encoder",
+    "attachments-reordered",
+    "another-event",
+    "altered",
+];
 
 static EXTRA: [&str; 9] = [
     "node-behind-break",

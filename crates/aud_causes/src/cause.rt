@@ -73,8 +73,21 @@ pub enum Cause {
         first: usize,
         again: usize,
     },
-    /// An event's text or attachments are not the entry's, from this part on. Its sentence counts bytes and attachments
-    /// from 1.
+    /// An event says what its entry says, and its text is another. Its sentence counts bytes from 1.
+    AnotherEncoder {
+        frame: usize,
+        part: Part,
+    },
+    /// An event has its entry's attachments in another order.
+    AttachmentsReordered {
+        frame: usize,
+    },
+    /// An event has another name than its entry, or another number of arguments.
+    AnotherEvent {
+        frame: usize,
+    },
+    /// An event doesn't say what its entry says, or has other attachments; its text or attachments are not the entry's
+    /// from this part on. Its sentence counts bytes and attachments from 1.
     Altered {
         frame: usize,
         part: Part,
@@ -251,6 +264,9 @@ impl Cause {
             Cause::LostLive { .. } => "lost-live",
             Cause::DoubledLive { .. } => "doubled-live",
             Cause::SwappedLive { .. } => "swapped-live",
+            Cause::AnotherEncoder { .. } => "another-encoder",
+            Cause::AttachmentsReordered { .. } => "attachments-reordered",
+            Cause::AnotherEvent { .. } => "another-event",
             Cause::Altered { .. } => "altered",
             Cause::LogEndedEarly { .. } => "log-ended-early",
             Cause::LateLeave { .. } => "late-leave",
@@ -315,8 +331,13 @@ impl Cause {
                 "look at what stands between the node and the client, and at what the node sent.",
             Cause::SwappedLive { .. } =>
                 "look at what stands between the node and the client, and at what the node sent.",
-            Cause::Altered { .. } =>
-                "look at what stands between the node and the client; let the stream's tap write as the nodes do.",
+            Cause::AnotherEncoder { .. } =>
+                "let the stream's tap write each event as the nodes do, byte for byte.",
+            Cause::AttachmentsReordered { .. } =>
+                "look at what stands between the node and the client: it has to keep the order of messages.",
+            Cause::AnotherEvent { .. } =>
+                "let no event but those of the stream end in a text that is an offset.",
+            Cause::Altered { .. } => "look at what stands between the node and the client.",
             Cause::LogEndedEarly { .. } =>
                 "write a node's log unbuffered, and stop the nodes after the clients.",
             Cause::LateLeave { .. } =>

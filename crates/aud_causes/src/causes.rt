@@ -76,7 +76,7 @@ pub fn causes_of<'r, 'a>(
 fn has_others(fault: &Fault) -> bool
     ensures { result ≡ has_others fault.now }
 {
-    !matches!(fault, Fault::NoLog | Fault::Frame | Fault::Content(_))
+    !matches!(fault, Fault::NoLog | Fault::Frame)
 }
 
 /// The causes of the fault, where these are the numbers of the session's stays in its client's tap.

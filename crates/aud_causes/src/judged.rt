@@ -5,9 +5,9 @@ ghost use Rattle.aud_causes.specs.declared.cause.Cause.TheVariants.{NotAPacket};
 ghost use Rattle.aud_causes.specs.Differences.{case_of};
 ghost use Rattle.aud_causes.specs.Judged.{causes_found, judged_causes, names_causes, orphan_at, other_causes};
 ghost use Rattle.aud_causes.specs.NoPacket.{no_packet_in};
-ghost use Rattle.aud_causes.specs.Windows.{altered_causes};
 
 use crate::cause::Cause;
+use crate::contents::content_causes;
 use crate::delivery::difference_causes;
 use crate::facts::stay_at;
 use crate::list::held;
@@ -16,7 +16,7 @@ use crate::no_packet::no_packet_in;
 use crate::orphans::orphan_causes;
 use crate::window::window_causes;
 use aud_cert::{Fault, Turn};
-use aud_check::{Altered, Finding};
+use aud_check::Finding;
 use aud_client::{Recording, Stay};
 use aud_session_facts::{Account, opened_in};
 use std::alloc::{AllocError, Global};
@@ -59,7 +59,9 @@ fn causes_found(
         → causes.items ≡ causes_found (case_of recording.now account.now numbers.now made) found) }
 {
     match found {
-        Some(Finding::Content(altered)) => altered_causes(alloc, altered),
+        Some(Finding::Content(altered)) => {
+            content_causes(alloc, recording.logs().stream(), &account.stays, altered)
+        }
         Some(Finding::Delivery(difference)) => {
             difference_causes(alloc, recording, account, numbers, difference)
         }
@@ -69,19 +71,6 @@ fn causes_found(
         }
         _ => Ok(Vec::new(alloc)),
     }
-}
-
-/// The cause of an event that isn't its entry.
-fn altered_causes(alloc: Global, altered: Altered) -> Result<Vec<Cause>, AllocError>
-    ensures { IfOk result (λ causes. causes.items ≡ altered_causes altered) }
-{
-    held(
-        alloc,
-        &[Some(Cause::Altered {
-            frame: altered.frame,
-            part: altered.part,
-        })],
-    )
 }
 
 /// The cause of the first record that is no packet of the client's tap at this place.

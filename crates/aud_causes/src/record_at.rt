@@ -90,6 +90,9 @@ pub(crate) fn records_of(cause: Cause) -> [Option<RecordAt>; 4]
             Some(Reply(stay)),
         ],
         Cause::LostLive { frame }
+        | Cause::AnotherEncoder { frame, .. }
+        | Cause::AttachmentsReordered { frame }
+        | Cause::AnotherEvent { frame }
         | Cause::Altered { frame, .. }
         | Cause::ExtraLive { frame }
         | Cause::JoinMissing { frame }

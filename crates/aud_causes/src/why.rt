@@ -57,6 +57,12 @@ fn why_words(cause: Cause) -> &'static str
             "No recovery stands between the two frames: the entry came twice while the client was connected.",
         Cause::SwappedLive { .. } =>
             "No recovery stands between the two frames: they changed places while the client was connected.",
+        Cause::AnotherEncoder { .. } =>
+            "The event's text parts from its entry's at byte #, and is the same JSON.",
+        Cause::AttachmentsReordered { .. } =>
+            "The event has its entry's attachments, in another order.",
+        Cause::AnotherEvent { .. } =>
+            "The event has another name than its entry, or another number of arguments.",
         Cause::Altered { part, .. } => part_words(part),
         Cause::LogEndedEarly { .. } =>
             "The log of # ends in the session's last turn; the turns reach entry #.",
@@ -131,7 +137,7 @@ fn why_figures(cause: Cause) -> [Option<Figure>; 3]
             number(low),
             None,
         ],
-        Cause::Altered { part, .. } => part_figures(part),
+        Cause::AnotherEncoder { part, .. } | Cause::Altered { part, .. } => part_figures(part),
         Cause::LogEndedEarly { high, .. } => [name, number(high), None],
         Cause::BeforeBirth { low, .. } => [name, number(low), None],
         Cause::MissingBreak { turn, .. }

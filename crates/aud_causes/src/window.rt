@@ -1,4 +1,4 @@
-//! What a recovery that was asked for where it does not fit may come from; and an event that isn't its entry.
+//! What a recovery that was asked for where it does not fit may come from.
 ghost use Rattle.std.specs.Prelude.{◌≡◌, IfOk, map};
 ghost use Rattle.aud_causes.specs.Windows.{by_misfit, other_session_of, window_causes};
 

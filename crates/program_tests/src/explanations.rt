@@ -10,6 +10,7 @@ mod called;
 mod cases;
 mod causes;
 mod chains;
+mod contents;
 mod delivery;
 mod escapes;
 mod figures;

@@ -195,8 +195,8 @@ client c1, namespace /, connection 1, turns 1, got 2, due 2
       15 c1   conn 1 got 2 o2  <- not as the entry has it
     turn 0  a  6 open, cursor 0 == take 1-2 == 8 log ends, cursor 2
     client  11 reply  12-15 got 1-2
-cause altered (fits, line 15): Attachment 2 of the event parts from its entry's at byte 1.
-do: look at what stands between the node and the client; let the stream's tap write as the nodes do.
+cause altered (certain, line 15): Attachment 2 of the event parts from its entry's at byte 1.
+do: look at what stands between the node and the client.
 
 sessions: *"#,
     // The client asks to go on after an event before the last one that it has.

@@ -1,0 +1,273 @@
+//! What an event that isn't its entry may come from.
+ghost use Rattle.std.specs.Prelude.{◌≡◌, ◌&&◌, IfOk, map, not, option_map, slice_get};
+ghost use Rattle.std.specs.Option.{option_copied};
+ghost use Rattle.serde_json.specs.View.{view};
+ghost use Rattle.aud_sio.specs.Message.{blob_bytes};
+ghost use Rattle.aud_sio.specs.Assembly.{blob_view};
+ghost use Rattle.aud_causes.specs.Delivery.{cause_if};
+ghost use Rattle.aud_client.specs.Replies.{value_of};
+ghost use Rattle.aud_causes.specs.Contents.{are_same, are_same_in_any_order, content_causes, causes_against, elements, event_causes, is_as_often, is_other_call, is_other_event, of_both, said_in, said_view, says_same, times};
+
+use crate::cause::Cause;
+use crate::list::held;
+use crate::same_json::same_value;
+use aud_check::{Altered, frames_in};
+use aud_client::{Frame, Stay};
+use aud_node::Stream;
+use aud_sio::{Blob, SioFault, decode};
+use aud_tap::{Bytes, Event, StreamRec};
+use serde_json::Value;
+use std::alloc::{AllocError, Global};
+
+/// The causes of the first frame of these stays that isn't its entry. It costs the frames, and reads two texts as JSON.
+pub(crate) fn content_causes(
+    alloc: Global,
+    stream: &Stream<'_>,
+    stays: &[&Stay<'_>],
+    altered: Altered,
+) -> Result<Vec<Cause>, AllocError>
+    ensures { IfOk result (λ causes. causes.items
+        ≡ content_causes stream.now (map (λ stay. stay.now) stays.now) altered) }
+{
+    let frames = frames_in(alloc, stays)?;
+    let frame = frame_at(&frames, altered.frame);
+    causes_against(alloc, frame, stream.entry(altered.position), altered)
+}
+
+fn frame_at<'s, 'a>(frames: &[&'s Frame<'a>], number: usize) -> Option<&'s Frame<'a>>
+    ensures { option_copied result ≡ slice_get (map (λ frame. frame.now) frames.now) number }
+{
+    frames.get(number).copied()
+}
+
+/// The same of this frame, where it is there and its entry is an event.
+fn causes_against(
+    alloc: Global,
+    frame: Option<&Frame<'_>>,
+    entry: Option<&StreamRec>,
+    altered: Altered,
+) -> Result<Vec<Cause>, AllocError>
+    ensures { IfOk result (λ causes. causes.items
+        ≡ causes_against (option_copied frame.entry) (option_copied entry.entry) altered) }
+{
+    match (frame, entry) {
+        (Some(frame), Some(StreamRec::Ev(event))) => event_causes(alloc, frame, event, altered),
+        _ => held(
+            alloc,
+            &[Some(Cause::Altered {
+                frame: altered.frame,
+                part: altered.part,
+            })],
+        ),
+    }
+}
+
+/// Those that hold of this frame, which parts from this entry so.
+fn event_causes(
+    alloc: Global,
+    frame: &Frame<'_>,
+    event: &Event,
+    altered: Altered,
+) -> Result<Vec<Cause>, AllocError>
+    ensures { IfOk result (λ causes. causes.items ≡ event_causes frame.now event.now altered) }
+{
+    let came = said_in(alloc, frame.text)?;
+    let entry = said_in(alloc, event.text.as_str())?;
+    let same = says_same(&came, &entry);
+    let other = is_other_event(&came, &entry);
+    let (number, part) = (altered.frame, altered.part);
+    held(
+        alloc,
+        &[
+            cause_if(
+                is_by_another_encoder(same, frame, event),
+                Cause::AnotherEncoder {
+                    frame: number,
+                    part,
+                },
+            ),
+            cause_if(
+                is_reordered(same, frame, event),
+                Cause::AttachmentsReordered { frame: number },
+            ),
+            cause_if(other, Cause::AnotherEvent { frame: number }),
+            cause_if(
+                is_altered(same, frame, event),
+                Cause::Altered {
+                    frame: number,
+                    part,
+                },
+            ),
+        ],
+    )
+}
+
+/// Whether the frame says the same as its entry, and has its attachments.
+fn is_by_another_encoder(same: bool, frame: &Frame<'_>, event: &Event) -> bool
+    ensures { result ≡ (same && are_same frame.now.bin event.now.bin) }
+{
+    same && are_same(&frame.bin, event.bin.as_slice())
+}
+
+/// Whether it says the same, and has the entry's attachments in another order.
+fn is_reordered(same: bool, frame: &Frame<'_>, event: &Event) -> bool
+    ensures { result ≡ (same && not (are_same frame.now.bin event.now.bin)
+        && are_same_in_any_order frame.now.bin event.now.bin) }
+{
+    if !same || are_same(&frame.bin, event.bin.as_slice()) {
+        return false;
+    }
+    are_same_in_any_order(&frame.bin, event.bin.as_slice())
+}
+
+/// Whether it doesn't say the same, or hasn't the entry's attachments in any order.
+fn is_altered(same: bool, frame: &Frame<'_>, event: &Event) -> bool
+    ensures { result ≡ not (same && are_same_in_any_order frame.now.bin event.now.bin) }
+{
+    !same || !are_same_in_any_order(&frame.bin, event.bin.as_slice())
+}
+
+/// The cause, where it holds.
+fn cause_if(holds: bool, cause: Cause) -> Option<Cause>
+    ensures { result ≡ cause_if holds cause }
+{
+    if holds { Some(cause) } else { None }
+}
+
+/// What an event says.
+#[derive(Drop)]
+pub(crate) struct Said<'a> {
+    /// Its namespace.
+    pub nsp: &'a str,
+    /// The value of its payload: an array of its name and its arguments.
+    pub value: Value,
+}
+
+/// What the text of an event says; none where it is no packet with a payload of JSON.
+fn said_in<'a>(alloc: Global, text: &'a str) -> Result<Option<Said<'a>>, AllocError>
+    ensures { IfOk result (λ said. option_map said_view said ≡ said_in text.now) }
+{
+    let packet = match decode(alloc, text) {
+        Ok(packet) => packet,
+        Err(SioFault::Memory) => return Err(AllocError),
+        Err(_) => return Ok(None),
+    };
+    match value_of(alloc, packet.payload)? {
+        Some(value) => Ok(Some(Said {
+            nsp: packet.nsp,
+            value,
+        })),
+        None => Ok(None),
+    }
+}
+
+/// The value of a payload, if there is one, and it is JSON.
+fn value_of(alloc: Global, payload: Option<&str>) -> Result<Option<Value>, AllocError>
+    ensures { IfOk result (λ value. option_map view value
+        ≡ value_of (option_map (λ text. text.now) payload.entry)) }
+{
+    let Some(text) = payload else {
+        return Ok(None);
+    };
+    match Value::from_str(alloc, text) {
+        Ok(value) => Ok(Some(value)),
+        Err(fault) if fault.is_memory() => Err(AllocError),
+        Err(_) => Ok(None),
+    }
+}
+
+/// Whether both are read, and say the same: in the same namespace the same JSON value.
+fn says_same(one: &Option<Said<'_>>, other: &Option<Said<'_>>) -> bool
+    ensures { result ≡ of_both says_same (option_map said_view one.now)
+        (option_map said_view other.now) }
+{
+    match (one, other) {
+        (Some(one), Some(other)) => { one.nsp == other.nsp && same_value(&one.value, &other.value) }
+        _ => false,
+    }
+}
+
+/// Whether both are read, and have another name, or another number of arguments.
+fn is_other_event(one: &Option<Said<'_>>, other: &Option<Said<'_>>) -> bool
+    ensures { result ≡ of_both is_other_event (option_map said_view one.now)
+        (option_map said_view other.now) }
+{
+    match (one, other) {
+        (Some(one), Some(other)) => is_other_call(elements(&one.value), elements(&other.value)),
+        _ => false,
+    }
+}
+
+/// The elements of an array; of another value none.
+#[tactic(auto, using(crate::proofs::ItemLemmas::listed_items_view))]
+fn elements(value: &Value) -> &[Value]
+    ensures { map view result.now ≡ elements (view value.now) }
+{
+    match value.as_array() {
+        Some(items) => items.as_slice(),
+        None => &[],
+    }
+}
+
+fn is_other_call(one: &[Value], other: &[Value]) -> bool
+    ensures { result ≡ is_other_call (map view one.now) (map view other.now) }
+{
+    if one.len() != other.len() {
+        return true;
+    }
+    match (one.first(), other.first()) {
+        (Some(name), Some(other_name)) => !same_value(name, other_name),
+        _ => false,
+    }
+}
+
+/// Whether the attachments are these, in the same order.
+#[tactic(auto, using(crate::proofs::ItemLemmas::are_same_apart))]
+fn are_same(bin: &[Blob<'_>], others: &[Bytes]) -> bool
+    ensures { result ≡ are_same (map blob_bytes (map blob_view bin.now)) others.now }
+{
+    if bin.len() != others.len() {
+        return false;
+    }
+    for i in 0..bin.len() {
+        if bin[i].as_slice() != others[i].as_slice() {
+            return false;
+        }
+    }
+    true
+}
+
+/// Whether the attachments are the others in some order: there are as many, and each of the others is there as often.
+fn are_same_in_any_order(bin: &[Blob<'_>], others: &[Bytes]) -> bool
+    ensures { result ≡ are_same_in_any_order (map blob_bytes (map blob_view bin.now)) others.now }
+{
+    if bin.len() != others.len() {
+        return false;
+    }
+    for other in others {
+        if !is_as_often(bin, others, other) {
+            return false;
+        }
+    }
+    true
+}
+
+/// Whether this one is there as often as among the others.
+#[tactic(auto, unfolding(crate::specs::Contents::is_as_often))]
+fn is_as_often(bin: &[Blob<'_>], others: &[Bytes], one: &Bytes) -> bool
+    ensures { result ≡ is_as_often (map blob_bytes (map blob_view bin.now)) others.now one.now }
+{
+    times_in_blobs(one.as_slice(), bin) == times(one.as_slice(), others)
+}
+
+fn times_in_blobs(one: &[u8], bin: &[Blob<'_>]) -> usize
+    ensures { result ≡ times one.now (map blob_bytes (map blob_view bin.now)) }
+{
+    bin.iter().filter(|blob| one == blob.as_slice()).count()
+}
+
+fn times(one: &[u8], bin: &[Bytes]) -> usize
+    ensures { result ≡ times one.now bin.now }
+{
+    bin.iter().filter(|bytes| one == bytes.as_slice()).count()
+}
