@@ -5,7 +5,7 @@ pub(crate) const HEAD: &str = r#"<!doctype html>
 <html lang="en">
 <head>
 <meta charset="utf-8">
-<meta http-equiv="Content-Security-Policy" content="default-src 'none'; script-src 'sha256-d2K9xJ6IpxqaKs1QqI32pQN1oYRJwz8lg7oh6/S5twU='; style-src 'sha256-gMYhEyB3PDSfbNwcTAUqBJQ8LE/pS1oHd+iOxOIDqCg='; base-uri 'none'; form-action 'none'; require-trusted-types-for 'script'; trusted-types 'none'">
+<meta http-equiv="Content-Security-Policy" content="default-src 'none'; script-src 'sha256-bn9bLFWv8+A+VaqoJ+mBiSppfuqR+zLUaElpH16Wl90='; style-src 'sha256-gMYhEyB3PDSfbNwcTAUqBJQ8LE/pS1oHd+iOxOIDqCg='; base-uri 'none'; form-action 'none'; require-trusted-types-for 'script'; trusted-types 'none'">
 <meta name="viewport" content="width=device-width, initial-scale=1">
 <title>sioaudit report</title>
 <style>
@@ -1026,7 +1026,8 @@ function sessionView(session, room) {
     h("div", { class: "columns" },
       fault === null ? null : h("div", {}, h("h3", {}, "Evidence"), rowsTable(session, evidence, "Evidence", onRow),
         others.length > 0 ? h("p", {}, `Also ${others.join(", ")}${more}.`) : null,
-        alike.length > 0 ? h("p",{},`The same of ${counted(alike.length, "more session")}: `, ...alike.slice(0, 100).map(it => h("span",{},code(it), " "))) : null),
+        alike.length > 0 ? h("p", {}, `The same of ${counted(alike.length, "more session")}: `, ...alike.slice(0, FIRST).map(it => h("span", {}, code(it), " ")),
+          alike.length > FIRST ? `.. and ${grouped(alike.length - FIRST)} more` : null) : null),
       refused.length === 0 ? null : h("div", {}, h("h3", {}, "Refused recoveries"), ...refused.map(it => refusedView(session, it, onRow))),
       fault === null && refused.length === 0 ? null : h("div", {}, h("h3", {}, "Causes"), ...causes.map(causeView), refutedView(session),
         causes.length + session.refuted.length === 0 ? "No causes are known." : null)),
