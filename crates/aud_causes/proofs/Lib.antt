@@ -1,3 +1,4 @@
+mod AroundLemmas
 mod AtBreakLemmas
 mod Told
 mod Sure

@@ -1,5 +1,5 @@
 -- Causes that were found, as they are told.
-use Rattle.std.specs.Prelude.{ℕ, Bool, List, map, string_bytes, Option}
+use Rattle.std.specs.Prelude.{ℕ, Bool, ◌++◌, List, map, string_bytes, Option}
 use Rattle.aud_node.specs.Cluster.{Cluster}
 use Rattle.aud_node.specs.Stream.{Text}
 use Rattle.aud_input.specs.TapLines.{TapLines}
@@ -9,9 +9,10 @@ use Rattle.aud_causes.specs.declared.found.CauseFound.{CauseFound}
 use Rattle.aud_causes.specs.Words.{id_text, todo_text, why_text}
 use Rattle.aud_causes.specs.Records.{lines_at, name_of, node_of, records_of}
 use Rattle.aud_causes.specs.State.{state_of}
+use Rattle.aud_causes.specs.Texts.{texts_told}
 
--- what is told of a cause: its name, how it stands, the lines of the records that show it, what happened, and what to
--- do
+-- what is told of a cause: its name, how it stands, the lines of the records that show it, what happened, with both
+-- texts where they part, and what to do
 pub record CauseSeen : Type 0 where
   pub id : Text
   pub state : CauseState
@@ -22,6 +23,10 @@ pub record CauseSeen : Type 0 where
 abbrev pub cause_seen : CauseFound → CauseSeen
 cause_seen f = record { id = f.id.now; state = f.state; lines = f.lines.items; why = string_bytes f.why; todo = f.todo.now }
 
+-- what happened, and both texts where they part
+abbrev pub why_told : Cluster → Option ℕ → List ℕ → Cause → Text
+why_told c client numbers cause = why_text (name_of c (node_of cause)) cause ++ texts_told c client numbers cause
+
 -- what is told of this cause, where these are the lines of the input, this is the place of the session's client's tap,
 -- if there is one, and these are the numbers of its stays there
 abbrev pub shown_cause : Cluster → List TapLines → Option ℕ → List ℕ → CauseState → Cause → CauseSeen
@@ -30,7 +35,7 @@ shown_cause c lines client numbers state cause =
       id = id_text cause;
       state = state;
       lines = lines_at c lines client numbers (records_of cause);
-      why = why_text (name_of c (node_of cause)) cause;
+      why = why_told c client numbers cause;
       todo = todo_text cause;
     }
 

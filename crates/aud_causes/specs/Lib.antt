@@ -8,6 +8,8 @@ pub mod Filled
 pub mod NoPacket
 pub mod Words
 pub mod Records
+pub mod Excerpt
+pub mod Texts
 pub mod Facts
 pub mod Delivery
 pub mod Behind

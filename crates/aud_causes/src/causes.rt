@@ -101,7 +101,7 @@ fn causes_found(
 }
 
 /// The place of the tap, if there is one.
-fn place_of(tap: Option<&ClientPlaces>) -> Option<usize>
+pub(crate) fn place_of(tap: Option<&ClientPlaces>) -> Option<usize>
     ensures { result ≡ place_of (option_copied tap.entry) }
 {
     Some(tap?.place)

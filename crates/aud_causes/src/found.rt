@@ -1,15 +1,18 @@
 //! Causes that were found, as they are told.
-ghost use Rattle.std.specs.Prelude.{◌≡◌, IfOk, IfSome, map};
+ghost use Rattle.std.specs.Prelude.{◌≡◌, IfOk, IfSome, map, string_bytes};
 ghost use Rattle.std.specs.Option.{option_copied};
 ghost use Rattle.aud_rows.specs.ClientPlaces.{AreOf};
-ghost use Rattle.aud_causes.specs.Found.{cause_seen, shown_cause, shown_causes};
+ghost use Rattle.aud_causes.specs.Found.{cause_seen, shown_cause, shown_causes, why_told};
 ghost use Rattle.aud_causes.specs.Records.{name_of, node_of, place_of};
 
 use crate::cause::Cause;
+use crate::causes::place_of;
 use crate::lines::lines_at;
 use crate::record_at::{node_of, records_of};
 use crate::state::state_of;
+use crate::texts::push_texts;
 use crate::why::why_text;
+use aud_client::Recording;
 use aud_explanation::CauseState;
 use aud_node::Logs;
 use aud_rows::{ClientPlaces, Sheet};
@@ -66,8 +69,7 @@ fn shown_cause(
         (place_of (option_copied tap.entry)) numbers.now state cause) }
 {
     let lines = lines_at(alloc, sheet, tap, numbers, &records_of(cause))?;
-    let node = name_of(sheet.recording.logs(), node_of(cause));
-    let why = why_text(alloc, cause, node)?;
+    let why = why_told(alloc, sheet.recording, place_of(tap), numbers, cause)?;
     Ok(CauseFound {
         id: cause.id(),
         state,
@@ -75,6 +77,23 @@ fn shown_cause(
         why,
         todo: cause.todo(),
     })
+}
+
+/// What happened, and both texts where they part.
+fn why_told(
+    alloc: Global,
+    recording: &Recording<'_>,
+    client: Option<usize>,
+    numbers: &[usize],
+    cause: Cause,
+) -> Result<String, AllocError>
+    ensures { IfOk result (λ why. string_bytes why
+        ≡ why_told recording.now client numbers.now cause) }
+{
+    let node = name_of(recording.logs(), node_of(cause));
+    let mut why = why_text(alloc, cause, node)?;
+    push_texts(&mut why, recording, client, numbers, cause)?;
+    Ok(why)
 }
 
 /// The name of the tap at the place, if there is one; else the empty text.

@@ -104,7 +104,7 @@ fn client_row<'r>(
 }
 
 /// Where the frame stands in the stays with these numbers.
-fn frame_in(
+pub(crate) fn frame_in(
     recording: &Recording<'_>,
     client: usize,
     numbers: &[usize],
@@ -117,7 +117,7 @@ fn frame_in(
 }
 
 /// The stays of a client's tap.
-fn stays_of<'s, 'a>(client: &'s IndexedTranscript<'a>) -> &'s [Stay<'a>]
+pub(crate) fn stays_of<'s, 'a>(client: &'s IndexedTranscript<'a>) -> &'s [Stay<'a>]
     ensures { result.now ≡ client.now.stays }
 {
     client.transcript().stays.as_slice()

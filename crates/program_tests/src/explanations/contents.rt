@@ -69,7 +69,8 @@ c1 {"k":"in","t":"42[\"new\", {\"name\":\"caf\\u00e9\",\"a\\/b\":1}, 7.0, \"o2\"
 -> Ok(SomeNo)
 no P CONTENT o2 [delivery]
 *cause another-encoder (certain, line 13): The event's text parts from its entry's at byte 9, and is
-        the same JSON.
+        the same JSON. It has 2["new", {"name":"caf\\u00e9","a\\.., and the entry has
+        2["new",{"a/b":1,"name":"café"}.. there.
 do: let the stream's tap write each event as the nodes do, byte for byte.
 
 sessions: *"#,
@@ -79,7 +80,8 @@ sessions: *"#,
 c1 {"k":"in","t":"42[\"new\",{\"a/b\":1,\"name\":\"caf\u00e9\"},8,\"o2\"]"}
 -> Ok(SomeNo)
 no P CONTENT o2 [delivery]
-*cause altered (certain, line 13): The event's text parts from its entry's at byte 34.
+*cause altered (certain, line 13): The event's text parts from its entry's at byte 34. It has
+        .."a/b":1,"name":"café"},8,"o2"], and the entry has .."a/b":1,"name":"café"},7,"o2"] there.
 do: look at what stands between the node and the client.
 
 sessions: *"#,
@@ -92,7 +94,8 @@ no P CONTENT o2 [delivery]
 *cause another-event (fits, line 13): The event has another name than its entry, or another number of
         arguments.
 do: let no event but those of the stream end in a text that is an offset.
-cause altered (fits, line 13): The event's text parts from its entry's at byte 4.
+cause altered (fits, line 13): The event's text parts from its entry's at byte 4. It has
+        2["seen","o2"], and the entry has 2["new",{"a/b":1,"name":"ca.. there.
 do: look at what stands between the node and the client.
 
 sessions: *"#,

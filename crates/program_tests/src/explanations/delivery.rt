@@ -276,7 +276,8 @@ client c1, namespace /, connection 1, turns 1, got 1, due 1
 cause another-event (fits, line 11): The event has another name than its entry, or another number of
         arguments.
 do: let no event but those of the stream end in a text that is an offset.
-cause altered (fits, line 11): The event's text parts from its entry's at byte 4.
+cause altered (fits, line 11): The event's text parts from its entry's at byte 4. It has
+        2["v","1-0"], and the entry has 2["hi","1-0"] there.
 do: look at what stands between the node and the client.
 
 sessions: *"#,

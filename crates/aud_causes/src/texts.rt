@@ -1,0 +1,109 @@
+//! Both texts of an event that isn't its entry, in the sentence of its cause.
+ghost use Rattle.std.specs.Prelude.{◌≡◌, ◌++◌, OnOk, string_bytes};
+ghost use Rattle.std.specs.Option.{option_and_then, option_copied};
+ghost use Rattle.aud_causes.specs.Texts.{apart_in, both_texts, frame_of, frame_there, texts_of, texts_told};
+
+use crate::cause::Cause;
+use crate::excerpt::push_excerpt;
+use crate::lines::{frame_in, stays_of};
+use aud_check::Part;
+use aud_client::{Frame, Recording, Stay};
+use aud_node::Stream;
+use aud_shown::FramePlace;
+use aud_tap::StreamRec;
+use std::alloc::AllocError;
+
+/// A session's frame, by its number, whose text parts from its entry's, and the byte at which it does. Both count from 0.
+#[derive(Clone, Copy, Drop)]
+pub struct Apart {
+    pub frame: usize,
+    pub at: usize,
+}
+
+/// Adds what both texts have around the byte at which they part, where the cause speaks of that: those of the session's
+/// frame and its entry, where these are the numbers of its stays in the client's tap at this place.
+pub(crate) fn push_texts(
+    out: &mut String,
+    recording: &Recording<'_>,
+    client: Option<usize>,
+    numbers: &[usize],
+    cause: Cause,
+) -> Result<(), AllocError>
+    ensures { OnOk result (string_bytes out.new
+        ≡ string_bytes out.old ++ texts_told recording.now client numbers.now cause) }
+{
+    let Some(apart) = apart_in(cause) else {
+        return Ok(());
+    };
+    let frame = frame_of(recording, client, numbers, apart.frame);
+    push_texts_of(out, recording.logs().stream(), frame, apart.at)
+}
+
+/// Where the cause says that texts part.
+fn apart_in(cause: Cause) -> Option<Apart>
+    ensures { result ≡ apart_in cause }
+{
+    match cause {
+        Cause::AnotherEncoder {
+            frame,
+            part: Part::Text { at },
+        }
+        | Cause::Altered {
+            frame,
+            part: Part::Text { at },
+        } => Some(Apart { frame, at }),
+        _ => None,
+    }
+}
+
+/// The session's frame with this number, where these are the numbers of its stays in the client's tap at this place.
+fn frame_of<'r, 'a>(
+    recording: &'r Recording<'a>,
+    client: Option<usize>,
+    numbers: &[usize],
+    frame: usize,
+) -> Option<&'r Frame<'a>>
+    ensures { option_copied result
+        ≡ option_and_then (frame_of recording.now numbers.now frame) client }
+{
+    let client = client?;
+    let place = frame_in(recording, client, numbers, frame)?;
+    frame_there(stays_of(recording.client(client)?), place)
+}
+
+/// The frame at this place, if there is one.
+fn frame_there<'r, 'a>(stays: &'r [Stay<'a>], place: FramePlace) -> Option<&'r Frame<'a>>
+    ensures { option_copied result ≡ frame_there stays.now place }
+{
+    stays.get(place.stay)?.frames.get(place.frame)
+}
+
+/// The same of this frame and its entry.
+fn push_texts_of(
+    out: &mut String,
+    stream: &Stream<'_>,
+    frame: Option<&Frame<'_>>,
+    at: usize,
+) -> Result<(), AllocError>
+    ensures { OnOk result (string_bytes out.new
+        ≡ string_bytes out.old ++ texts_of stream.now (option_copied frame.entry) at) }
+{
+    let Some(frame) = frame else {
+        return Ok(());
+    };
+    match stream.entry(frame.position) {
+        Some(StreamRec::Ev(event)) => push_both(out, frame.text, event.text.as_str(), at),
+        _ => Ok(()),
+    }
+}
+
+fn push_both(out: &mut String, came: &str, event: &str, at: usize) -> Result<(), AllocError>
+    ensures { OnOk result (string_bytes out.new
+        ≡ string_bytes out.old ++ both_texts came.now event.now at) }
+{
+    out.push_str(" It has ")?;
+    push_excerpt(out, came, at)?;
+    out.push_str(", and the entry has ")?;
+    push_excerpt(out, event, at)?;
+    out.push_str(" there.")
+}
