@@ -6,3 +6,4 @@ pub mod LeftOut
 pub mod MadeOther
 pub mod InParts
 pub mod LinesInFiles
+pub mod FaultRow

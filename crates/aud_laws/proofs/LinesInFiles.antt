@@ -5,7 +5,7 @@ use Rattle.std.proofs.lemmas.Option.{none-some, same_Some}
 use Rattle.aud_reader.specs.Lines.{line_pieces}
 use Rattle.aud_input.specs.InputFiles.{input_files, place_in}
 use Rattle.aud_input.specs.Sources.{LinesAreThoseOfFiles}
-use Rattle.aud_laws.specs.Places.{LinesStandWhereTold, StandsIn, lines_of_each}
+use Rattle.aud_laws.specs.Places.{LinesStandWhereTold, lines_of_each}
 
 -- what stands within the first of two lists
 in-front : {X : Type 0} (xs ys : List X) (i : ℕ) → i < length xs → slice_get (xs ++ ys) i ≡ slice_get xs i

@@ -12,6 +12,7 @@ pub mod Outputs
 pub mod Proven
 pub mod Parts
 pub mod Places
+pub mod FaultRows
 pub use Rattle.aud_parts.specs.LeftOut
 pub use Rattle.aud_parts.specs.MadeOther
 pub use Rattle.aud_parts.specs.Part

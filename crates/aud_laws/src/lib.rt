@@ -15,6 +15,7 @@
 //!   the whole.
 //! - [`places`]: in which of several files a line stands.
 //! - [`certified`]: what is proved is accepted: the text of a certificate that was made is read as that certificate.
+//! - [`fault_rows`]: the record at which a fault shows is among the rows that `explain` writes of it.
 //! - [`rewritten`]: taps that were read keep to all that a bundle's taps keep to, and upgraded ones too (`AreOfABundle`
 //! of
 //!   `aud_writer`'s `specs/OfABundle.antt`).
@@ -63,6 +64,7 @@
 #![tactic(auto)]
 
 mod certified;
+mod fault_rows;
 mod left_out;
 mod order;
 mod parts;
@@ -71,6 +73,7 @@ mod recovery;
 mod rewritten;
 
 pub use certified::{made_is_read_back, made_is_sound, proved_is_accepted};
+pub use fault_rows::{fault_has_its_row, records_have_kept_lines};
 pub use left_out::{
     entries_made_other, recording_left, records_left_out, sessions_kept, sessions_left_out,
     taps_left_out,

@@ -70,18 +70,18 @@ no-certificates [] = refl
 no-certificates (line ∷ lines) = no-certificates lines
 
 -- and each is one of its own
-all-lines : (lines : List Line) → bundle_in Bundle lines ≡ lines
+pub all-lines : (lines : List Line) → bundle_in Bundle lines ≡ lines
 all-lines [] = refl
 all-lines (line ∷ lines) = ap (λ ls. line ∷ ls) (all-lines lines)
 
 -- an input that is read has no line that is too long, and the taps of its lines
-record IsWhole (cut : Option ReadFault) (certificates : List Line) (read : Result (List Tap) ReadFault) (input : InputSeen) : Type 0 where
-  none : cut ≡ None
-  taps : read ≡ Ok input.taps
-  rest : input.certificates ≡ certificates
+pub record IsWhole (cut : Option ReadFault) (certificates : List Line) (read : Result (List Tap) ReadFault) (input : InputSeen) : Type 0 where
+  pub none : cut ≡ None
+  pub taps : read ≡ Ok input.taps
+  pub rest : input.certificates ≡ certificates
 
 -- what an input that is read tells
-whole : (cut : Option ReadFault) (certificates : List Line) (read : Result (List Tap) ReadFault) (input : InputSeen) → unless_cut cut (with_certificates certificates read) ≡ Ok input → IsWhole cut certificates read input
+pub whole : (cut : Option ReadFault) (certificates : List Line) (read : Result (List Tap) ReadFault) (input : InputSeen) → unless_cut cut (with_certificates certificates read) ≡ Ok input → IsWhole cut certificates read input
 whole None certificates (Ok taps) input e =
     let same : record { taps = taps; certificates = certificates } ≡ input = cc in
     record { none = refl; taps = ap (λ (i : InputSeen). Ok i.taps) same; rest = ap (λ (i : InputSeen). i.certificates) (sym same) }

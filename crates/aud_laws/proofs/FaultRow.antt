@@ -1,0 +1,20 @@
+-- The row of the record at which a fault shows.
+pub mod Known
+pub mod Rows
+pub mod Packets
+pub mod Stays
+pub mod Sessions
+pub mod Chain
+pub mod Order
+pub mod Names
+pub mod Frame
+pub mod Orphan
+pub mod Placed
+pub mod Frames
+pub mod Content
+pub mod Parting
+pub mod Window
+pub mod Tail
+pub mod Otherwise
+pub mod Found
+pub mod Shown
