@@ -1,5 +1,5 @@
 -- What loops do, one step more.
-use Rattle.std.proofs.Common.{◌≡◌, ◌<◌, ◌≤◌, ◌+◌, ◌-◌, ◌++◌, ◌&&◌, ◌||◌, ℕ, zero, suc, Bool, true, false, not, cond, if◌then◌else◌, List, [], ◌∷◌, length, take, drop, get_or, flat_map, map, Option, Some, option_to_list, slice_get, bytes_eq, eqb, refl, sym, ap, subst, ◌∙◌, append_assoc, append-nil, arith}
+use Rattle.std.proofs.Common.{◌≡◌, ◌<◌, ◌≤◌, ◌+◌, ◌-◌, ◌++◌, ◌&&◌, ◌||◌, ℕ, zero, suc, Bool, true, false, not, cond, if◌then◌else◌, List, [], ◌∷◌, length, take, drop, get_or, flat_map, map, Option, Some, option_to_list, slice_get, string_bytes, bytes_eq, eqb, refl, sym, ap, subst, ◌∙◌, append_assoc, append-nil, arith}
 use Rattle.std.specs.List.{AllZip}
 use Rattle.std.proofs.lemmas.List.Folds.{list_any-append}
 use Rattle.std.proofs.lemmas.List.{drop-drop, length-take-le, map-append, take-append-drop, take_more, take_rest}
@@ -19,7 +19,10 @@ use Rattle.aud_verdict.specs.declared.verdict.SessionVerdict.{SessionVerdict}
 use Rattle.aud_explain_app.specs.Strangers.{AreAdded, AreKnown, IsJudged, asked_in_vain, has_pid, pid_in_vain, pids_of, with_pids}
 use Rattle.aud_explain_app.specs.Alike.{Telling}
 use Rattle.aud_explain_app.specs.Explained.{IsExplained}
-use Rattle.aud_explain_app.specs.Texts.{AddTexts, IsTextOf}
+use Rattle.aud_explain_app.specs.CausesTold.{AreCausesTold}
+use Rattle.aud_explain_app.specs.Texts.{AddTexts, IsTextOf, causes_in, text_in}
+use Rattle.aud_explain_app.specs.declared.sessions.ToldText.{ToldText}
+use Rattle.aud_summary.specs.declared.causes.CausesTold.{CausesTold}
 use Rattle.aud_explain_app.specs.Written.{IsWritten}
 use Rattle.aud_explain_app.specs.declared.explained.Explained.{Explained}
 use Rattle.aud_explain_app.specs.Asked.{refused_of}
@@ -134,15 +137,16 @@ abbrev from : {X : Type 0} → List X → ℕ → List X
 from xs i = take (length xs - i) (drop i xs)
 
 -- the texts of sessions, and then those of others
-texts_joined : (c : Cluster) (lines : List TapLines) (form : Form) (files : List InputFile) (xs ys : List Telling) (a b e : List ℕ)
-    → AddTexts c lines form files xs a b → AddTexts c lines form files ys b e → AddTexts c lines form files (xs ++ ys) a e
-texts_joined c lines form files xs ys a b e first next =
-    let one : List ℕ → List ℕ = λ text. text in
+texts_joined : (c : Cluster) (lines : List TapLines) (form : Form) (files : List InputFile) (xs ys : List Telling) (a b e : List ℕ) (k m n : List CausesTold)
+    → AddTexts c lines form files xs a b k m → AddTexts c lines form files ys b e m n → AddTexts c lines form files (xs ++ ys) a e k n
+texts_joined c lines form files xs ys a b e k m n first next =
     record {
-      texts = first.texts ++ next.texts;
-      are_texts = zip_append (IsTextOf c lines form files) xs first.texts ys next.texts first.are_texts next.are_texts;
-      added = next.added ∙ ap (λ t. t ++ flat_map one next.texts) first.added ∙ append_assoc a (flat_map one first.texts) (flat_map one next.texts)
-          ∙ ap (λ t. a ++ t) (sym (flat_map-append one first.texts next.texts));
+      told = first.told ++ next.told;
+      are_told = zip_append (IsTextOf c lines form files) xs first.told ys next.told first.are_told next.are_told;
+      added = next.added ∙ ap (λ t. t ++ flat_map text_in next.told) first.added ∙ append_assoc a (flat_map text_in first.told) (flat_map text_in next.told)
+          ∙ ap (λ t. a ++ t) (sym (flat_map-append text_in first.told next.told));
+      causes_added = next.causes_added ∙ ap (λ t. t ++ map causes_in next.told) first.causes_added ∙ append_assoc k (map causes_in first.told) (map causes_in next.told)
+          ∙ ap (λ t. k ++ t) (sym (map-append causes_in first.told next.told));
     }
 
 -- a list from a place on is its next part, and what comes after that
@@ -153,44 +157,41 @@ part_of xs i k h =
     ap (λ ys. take k (from xs i) ++ ys) others ∙ take-append-drop k (from xs i) ∙ rest
 
 -- the texts of the next part of a list, and then those of what comes after it
-pub texts_part : {X : Type 0} (c : Cluster) (lines : List TapLines) (form : Form) (files : List InputFile) (f : X → Telling) (xs : List X) (i k : ℕ) (a b e : List ℕ) → k ≤ length (from xs i)
-    → AddTexts c lines form files (map f (take k (from xs i))) a b → AddTexts c lines form files (map f (drop (i + length (take k (from xs i))) xs)) b e
-    → AddTexts c lines form files (map f (drop i xs)) a e
-texts_part c lines form files f xs i k a b e h first next =
+pub texts_part : {X : Type 0} (c : Cluster) (lines : List TapLines) (form : Form) (files : List InputFile) (f : X → Telling) (xs : List X) (i k : ℕ) (a b e : List ℕ) (before between after : List CausesTold)
+    → k ≤ length (from xs i) → AddTexts c lines form files (map f (take k (from xs i))) a b before between
+    → AddTexts c lines form files (map f (drop (i + length (take k (from xs i))) xs)) b e between after → AddTexts c lines form files (map f (drop i xs)) a e before after
+texts_part c lines form files f xs i k a b e before between after h first next =
     let part = take k (from xs i) in
     let others = drop (i + length part) xs in
-    subst (λ ys. AddTexts c lines form files ys a e) (sym (map-append f part others) ∙ ap (map f) (part_of xs i k h))
-    (texts_joined c lines form files (map f part) (map f others) a b e first next)
+    subst (λ ys. AddTexts c lines form files ys a e before after) (sym (map-append f part others) ∙ ap (map f) (part_of xs i k h))
+    (texts_joined c lines form files (map f part) (map f others) a b e before between after first next)
 
 -- no texts
-pub texts_none : {X : Type 0} (c : Cluster) (lines : List TapLines) (form : Form) (files : List InputFile) (f : X → Telling) (xs : List X) (a : List ℕ) → xs ≡ [] → AddTexts c lines form files (map f xs) a a
-texts_none c lines form files f xs a is =
-    subst (λ ys. AddTexts c lines form files (map f ys) a a) (sym is) (record { texts = []; are_texts = tt; added = sym (append-nil a) })
+pub texts_none : {X : Type 0} (c : Cluster) (lines : List TapLines) (form : Form) (files : List InputFile) (f : X → Telling) (xs : List X) (a : List ℕ) (causes : List CausesTold) → xs ≡ []
+    → AddTexts c lines form files (map f xs) a a causes causes
+texts_none c lines form files f xs a causes is =
+    subst (λ ys. AddTexts c lines form files (map f ys) a a causes causes) (sym is)
+    (record { told = []; are_told = tt; added = sym (append-nil a); causes_added = sym (append-nil causes) })
 
-module _ {X T : Type 0} (c : Cluster) (lines : List TapLines) (form : Form) (files : List InputFile) (f : X → Telling) (g : T → List ℕ) where
-  -- a text for each session, made apart from the others
-  abbrev AreMade : List X → List T → Type 0
-  AreMade = AllZip (λ x t. IsTextOf c lines form files (f x) (g t))
+-- the texts of sessions, made apart from each other, are put one after the other
+pub texts_put : {X : Type 0} (c : Cluster) (lines : List TapLines) (form : Form) (files : List InputFile) (f : X → Telling) (xs : List X) (told : List ToldText) (a b : List ℕ) (before after : List CausesTold)
+    → AllZip (λ x t. IsTextOf c lines form files (f x) t) xs told → b ≡ a ++ flat_map text_in told → after ≡ before ++ map causes_in told
+    → AddTexts c lines form files (map f xs) a b before after
+texts_put {X} c lines form files f xs told a b before after made put causes = record { told = told; are_told = each xs told made; added = put; causes_added = causes }
+  where
+    each : (xs : List X) (ts : List ToldText) → AllZip (λ x t. IsTextOf c lines form files (f x) t) xs ts → AllZip (IsTextOf c lines form files) (map f xs) ts
+    each [] [] h = tt
+    each [] (t ∷ ts) h = absurd h
+    each (x ∷ xs) [] h = absurd h
+    each (x ∷ xs) (t ∷ ts) h = (h.0, each xs ts h.1)
 
-  each_text : (xs : List X) (ts : List T) → AreMade xs ts → AllZip (IsTextOf c lines form files) (map f xs) (map g ts)
-  each_text [] [] h = tt
-  each_text [] (t ∷ ts) h = absurd h
-  each_text (x ∷ xs) [] h = absurd h
-  each_text (x ∷ xs) (t ∷ ts) h = (h.0, each_text xs ts h.1)
-
-  all_texts : (ts : List T) → flat_map g ts ≡ flat_map (λ text. text) (map g ts)
-  all_texts [] = refl
-  all_texts (t ∷ ts) = ap (λ more. g t ++ more) (all_texts ts)
-
-  -- they are put one after the other
-  pub texts_put : (xs : List X) (ts : List T) (a b : List ℕ) → AreMade xs ts → b ≡ a ++ flat_map g ts → AddTexts c lines form files (map f xs) a b
-  texts_put xs ts a b made put = record { texts = map g ts; are_texts = each_text xs ts made; added = put ∙ ap (λ t. a ++ t) (all_texts ts) }
-
--- the text of a session by its pid and its refused recoveries
-pub text_by : (c : Cluster) (lines : List TapLines) (form : Form) (files : List InputFile) (t : Telling) (pid : Text) (refused : List Recovery) (told : Explained) (text : List ℕ) → pid ≡ t.session.pid
-    → refused ≡ refused_of c t.session.pid → IsExplained c lines pid t.session.verdict refused told → IsWritten form files pid t.session.verdict t.alike told text → IsTextOf c lines form files t text
-text_by c lines form files t pid refused told text is are explained written = record {
-  told = told;
-  is_explained = subst (λ p. IsExplained c lines p t.session.verdict (refused_of c t.session.pid) told) is (subst (λ r. IsExplained c lines pid t.session.verdict r told) are explained);
-  is_written = subst (λ p. IsWritten form files p t.session.verdict t.alike told text) is written;
+-- what is told of a session by its pid and its refused recoveries
+pub text_by : (c : Cluster) (lines : List TapLines) (form : Form) (files : List InputFile) (t : Telling) (pid : Text) (refused : List Recovery) (explained : Explained) (told : ToldText)
+    → pid ≡ t.session.pid → refused ≡ refused_of c t.session.pid → IsExplained c lines pid t.session.verdict refused explained
+    → IsWritten form files pid t.session.verdict t.alike explained (string_bytes told.text) → AreCausesTold t.session.verdict (length t.alike) explained told.causes → IsTextOf c lines form files t told
+text_by c lines form files t pid refused explained told is are are_explained written causes = record {
+  explained = explained;
+  is_explained = subst (λ p. IsExplained c lines p t.session.verdict (refused_of c t.session.pid) explained) is (subst (λ r. IsExplained c lines pid t.session.verdict r explained) are are_explained);
+  is_written = subst (λ p. IsWritten form files p t.session.verdict t.alike explained (string_bytes told.text)) is written;
+  are_causes = causes;
 }

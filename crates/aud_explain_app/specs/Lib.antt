@@ -14,6 +14,7 @@ pub mod Refused
 pub mod Explained
 pub mod Lent
 pub mod Written
+pub mod CausesTold
 -- which are shown
 pub mod Asked
 pub mod Shown

@@ -26,6 +26,7 @@ use Rattle.aud_session_facts.specs.Recoveries.{is_granted, is_refused, recoverie
 use Rattle.aud_verdict.specs.declared.verdict.SessionVerdict.{SessionVerdict}
 use Rattle.aud_verdict.specs.Output.{OutputSeen}
 use Rattle.aud_verdict.specs.YesOf.{is_yes}
+use Rattle.aud_summary.specs.declared.causes.CausesTold.{CausesTold}
 use Rattle.aud_summary.specs.declared.summary.Summary.{Summary}
 use Rattle.aud_summary.specs.Answers.{is_no, is_unobserved}
 use Rattle.aud_summary.specs.ByClass.{classes_of}
@@ -56,10 +57,10 @@ form_of asked.Text = InText
 form_of asked.Json = Json
 form_of asked.Html = Json
 
--- the summary's lines, or its line of JSON
-abbrev pub summary_in : Form → Summary → List ℕ
-summary_in InText summary = summary_text summary
-summary_in Json summary = summary_json summary ++ codes "\n"
+-- the summary's lines, or its line of JSON, with what was told of causes
+abbrev pub summary_in : Form → Summary → List CausesTold → List ℕ
+summary_in InText summary causes = summary_text summary causes
+summary_in Json summary causes = summary_json summary causes ++ codes "\n"
 
 -- the figures are those of the recording, of these verdicts on its sessions and of these recoveries, in files of this
 -- size
@@ -92,7 +93,7 @@ pub record AreFigures (options : ExplainOptions) (c : Cluster) (size : Size) (ve
 -- the output over a recording, where these are the lines of its records, in these files: the explanation of each session
 -- that is shown, by its verdict, with the whole where that is asked for, those with the same fault at the same record once,
 -- and the figures of all of it; sessions that clients asked for in vain and that no record names are shown too, and not
--- counted; and each pid of the words is that of one of all these
+-- counted; and each pid of the words is that of one of all these. What the explanations told of causes is counted too
 pub record IsExplaining (options : ExplainOptions) (c : Cluster) (lines : List TapLines) (files : List InputFile) (size : Size) (output : OutputSeen) : Type 0 where
   pub verdicts : List SessionVerdict
   pub are_verdicts : AreVerdicts c options.whole (sessions_of c) verdicts
@@ -100,11 +101,12 @@ pub record IsExplaining (options : ExplainOptions) (c : Cluster) (lines : List T
   pub are_sessions : AreAdded c options.whole (asked_in_vain c (recoveries_of c)) verdicts sessions
   pub none_missing : first_missing (pids_known c) options.pids ≡ None
   pub texts : List ℕ
-  pub are_texts : AddTexts c lines (form_of options.form) files (tellings c options.pids (sessions_chosen c options.only options.pids sessions)) [] texts
+  pub causes : List CausesTold
+  pub are_texts : AddTexts c lines (form_of options.form) files (tellings c options.pids (sessions_chosen c options.only options.pids sessions)) [] texts [] causes
   pub figures : Figures
   pub are_figures : AreFigures options c size verdicts figures
   pub seconds : ℕ
-  pub text_is : output.text ≡ texts ++ summary_in (form_of options.form) (timed figures.summary seconds)
+  pub text_is : output.text ≡ texts ++ summary_in (form_of options.form) (timed figures.summary seconds) causes
   pub status_is : output.status ≡ figures.status
 
 -- the output is that of these records

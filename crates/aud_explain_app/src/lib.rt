@@ -17,6 +17,7 @@
 
 mod alike;
 mod asked;
+mod causes_told;
 mod chosen;
 mod events;
 mod explained;

@@ -27,7 +27,9 @@ use aud_client::Recording;
 use aud_desk::{AuditFault, OpenGate, Report, audit_with};
 use aud_input::{InputFile, RecordLines, Recorded, Size};
 use aud_rows::Sheet;
-use aud_summary::{Input, Summary, says_nothing, summary_json, summary_of, summary_text};
+use aud_summary::{
+    CausesTold, Input, Summary, says_nothing, summary_json, summary_of, summary_text,
+};
 use aud_verdict::{Output, SessionVerdict, Status};
 use std::alloc::{AllocError, Global};
 use std::hash::RandomState;
@@ -41,6 +43,15 @@ use std::time::{Clock, Instant};
 pub struct Figures {
     pub summary: Summary,
     pub status: Status,
+}
+
+/// The explanations of sessions.
+#[derive(Drop)]
+struct Explanations {
+    /// One after the other, written.
+    text: String,
+    /// What each of them tells of causes.
+    causes: Vec<CausesTold>,
 }
 
 /// The form of the explanations: a page holds JSON.
@@ -74,23 +85,24 @@ fn judged<H: Threads + Wait + Clock + Sync>(
     }
 }
 
-/// Writes the summary at the end.
+/// Writes the summary at the end, with what was told of causes.
 fn push_summary(
     alloc: Global,
     out: &mut String,
     form: Form,
     summary: &Summary,
+    causes: &[CausesTold],
 ) -> Result<(), AllocError>
     ensures { OnOk result (string_bytes out.new
-        ≡ string_bytes out.old ++ summary_in form summary.now) }
+        ≡ string_bytes out.old ++ summary_in form summary.now causes.now) }
 {
     match form {
         Form::Text => {
-            let text = summary_text(alloc, summary)?;
+            let text = summary_text(alloc, summary, causes)?;
             out.push_str(text.as_str())
         }
         Form::Json => {
-            let line = summary_json(alloc, summary)?;
+            let line = summary_json(alloc, summary, causes)?;
             writeln!(out, "{line}")
         }
     }
@@ -186,9 +198,10 @@ fn explaining<H: Threads + Clock + Sync>(
         &mut sessions,
     )?;
     let told = told(rt, alloc, keys, options, sheet, files, &asked, &sessions)?;
-    let mut out = told;
+    let Explanations { text, causes } = told;
+    let mut out = text;
     let summary = timed(figures.summary, seconds_since(rt, start));
-    push_summary(alloc, &mut out, form_of(options), &summary)?;
+    push_summary(alloc, &mut out, form_of(options), &summary, &causes)?;
     Ok(Output {
         status: figures.status,
         text: out,
@@ -241,13 +254,13 @@ fn told<H: Threads + Sync>(
     files: &[InputFile],
     asked: &Asked,
     sessions: &[SessionVerdict],
-) -> Result<String, Unexplained>
+) -> Result<Explanations, Unexplained>
     requires { AreAsked sheet.recording.now asked.now }
-    ensures told { IfOk result (λ text. AddTexts sheet.entry.recording.now sheet.entry.lines.now
+    ensures told { IfOk result (λ told. AddTexts sheet.entry.recording.now sheet.entry.lines.now
         (form_of options.now.form) files.now
         (tellings sheet.entry.recording.now options.now.pids (sessions_chosen
         sheet.entry.recording.now options.now.only options.now.pids sessions.now))
-        [] (string_bytes text)) }
+        [] (string_bytes told.text) [] told.causes.items) }
     ensures none_missing { OnOk result (first_missing (pids_of sessions.now) options.now.pids
         ≡ None) }
     ensures missing { (number : ℕ) → result ≡ Err (NoSession number)
@@ -269,9 +282,19 @@ fn told<H: Threads + Sync>(
         form: form_of(options),
         files,
     };
-    let mut out = String::new(alloc);
+    let mut text = String::new(alloc);
+    let mut causes = Vec::new(alloc);
     push_sessions(
-        rt, alloc, threads, &mut out, layout, sheet, &prepared, asked, &told,
+        rt,
+        alloc,
+        threads,
+        &mut text,
+        &mut causes,
+        layout,
+        sheet,
+        &prepared,
+        asked,
+        &told,
     )?;
-    Ok(out)
+    Ok(Explanations { text, causes })
 }

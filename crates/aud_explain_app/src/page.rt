@@ -5,7 +5,7 @@ pub(crate) const HEAD: &str = r#"<!doctype html>
 <html lang="en">
 <head>
 <meta charset="utf-8">
-<meta http-equiv="Content-Security-Policy" content="default-src 'none'; script-src 'sha256-bn9bLFWv8+A+VaqoJ+mBiSppfuqR+zLUaElpH16Wl90='; style-src 'sha256-gMYhEyB3PDSfbNwcTAUqBJQ8LE/pS1oHd+iOxOIDqCg='; base-uri 'none'; form-action 'none'; require-trusted-types-for 'script'; trusted-types 'none'">
+<meta http-equiv="Content-Security-Policy" content="default-src 'none'; script-src 'sha256-aimhjkcYGyNa7LsNR/UNR8s4lE9cJaiTJzoHJNNE3cs='; style-src 'sha256-Sa/bcERnPpFmw+weoDfErq+OoKo9cuKjOXv+alQSW30='; base-uri 'none'; form-action 'none'; require-trusted-types-for 'script'; trusted-types 'none'">
 <meta name="viewport" content="width=device-width, initial-scale=1">
 <title>sioaudit report</title>
 <style>
@@ -62,7 +62,8 @@ dd { margin: 0; font-size: 1.5rem; font-weight: 650 }
 .key, .bars { padding: 0; margin: 8px 0 14px; list-style: none }
 .key li { display: flex; align-items: center; gap: 6px }
 .bars button { display: flex; align-items: center; width: 100%; border: 0; padding: 3px 4px; text-align: left }
-.bars span:nth-last-child(3) { width: 84px }
+.bars span:nth-last-child(3) { min-width: 84px }
+.bars.by-cause span:nth-last-child(3) { min-width: 192px }
 .meter { flex: 1; margin-right: 8px; height: 8px; border-radius: 4px; background: var(--line); overflow: hidden }
 .meter span { display: block; height: 100% }
 form { align-items: end; gap: 8px }
@@ -277,6 +278,7 @@ const SUMMARY = {
   sessions: 0, yes: 0, no: 0, unobserved: 0, lines: 0, bytes: 0, seconds: 0, tail: { events: 0, sessions: 0 },
   entries: { all: 0, recoverable: 0 },
   recoveries: { asked: 0, granted: 0, refused: 0 }, class: zeros(CLASSES), fault: zeros(Object.keys(FAULTS)),
+  causes: /** @type {Record<string, number>} */ ({}), no_known_cause: 0,
 };
 const REFUSED = { file: TEXT, file_line: 0, help: "", line: 0, name: "" };
 
@@ -382,11 +384,11 @@ function sign(name) {
  */
 function barsOf(name, counts, choose) {
   const found = Object.entries(counts).filter(([, count]) => count > 0).sort((a, b) => b[1] - a[1]);
-  return h("ul", { class: "bars", "aria-label": `by ${name}` }, ...found.map(([value, count]) => {
-    const bar = h("span", { class: `fill ${name === "fault" ? faultOf(value).look : value}` });
+  return h("ul", { class: `bars by-${name}`, "aria-label": `by ${name}` }, ...found.map(([value, count]) => {
+    const bar = h("span", { class: `fill ${name === "fault" ? faultOf(value).look : name === "cause" ? "recording" : value}` });
     bar.style.width = `${(100 * count) / found[0][1]}%`;
     return h("li", {}, h("button", { title: faultOf(value).means, "data-by": name, "data-value": value, click: () => choose(name, value) },
-      name === "fault" ? sign(value) : null, h("span", {}, value), h("span", { class: "meter" }, bar),
+      name === "fault" ? sign(value) : null, h("span", {}, visible(value)), h("span", { class: "meter" }, bar),
       h("span", { class: "number" }, grouped(count))));
   }));
 }
@@ -406,7 +408,8 @@ function summaryCard(summary, choose) {
     warnings.length === 0 && no === 0 ? h("p", { class: "note yes" }, "Each session's client got what was due to it.") : null,
     h("dl", { class: "figures" }, ...Object.entries(figures).map(([name, count]) =>
       h("div", {}, h("dt", {}, name), h("dd", {}, grouped(count))))),
-    h("div", { class: "columns" }, barsOf("class", { yes, ...summary.class }, choose), barsOf("fault", summary.fault, choose)),
+    h("div", { class: "columns" }, barsOf("class", { yes, ...summary.class }, choose), barsOf("fault", summary.fault, choose),
+      barsOf("cause", { ...summary.causes, [NO_CAUSE]: summary.no_known_cause }, choose)),
     h("p", { class: "soft" }, `Input: ${counted(lines, "line")}, ${counted(bytes, "byte")}, ${counted(seconds, "second")}.`));
 }
 
@@ -992,9 +995,9 @@ const causeView = ({ id, lines, of, of_line, state, sure, todo, why }) => h("div
   h("p", {}, visible(why)), h("p", {}, h("b", {}, "Do: "), visible(todo)));
 
 /** @param {Session} session */
-const refutedView = ({ refuted, causes }) => refuted.length === 0 ? null : h("details", {},
-  h("summary", {}, causes.some(it => it.of === "fault") ? "" : "No known cause of the fault holds: ", counted(refuted.length, "was", "were"), " refuted"),
-  h("ul", {}, ...refuted.map(it => h("li", {}, code(it)))));
+const refutedView = session => session.refuted.length === 0 ? null : h("details", {},
+  h("summary", {}, isUnknown(session) ? "No known cause of the fault holds: " : "", counted(session.refuted.length, "was", "were"), " refuted"),
+  h("ul", {}, ...session.refuted.map(it => h("li", {}, code(it)))));
 
 /** @param {Session} session @param {Session["refused"][number]} refused @param {(line: number) => void} choose */
 const refusedView = (session, { ask, reply, instead, missed, missed_left }, choose) => h("div", {},
@@ -1045,6 +1048,12 @@ const nodesOf = ({ turns }) => [...new Set(turns.map(it => it.node))];
 /** @param {Session} session */
 const causesOf = ({ causes }) => causes.map(it => it.id);
 
+/** What stands for a fault of which no known cause holds. */
+const NO_CAUSE = "no known cause";
+
+/** @param {Session} session */
+const isUnknown = ({ causes, refuted }) => refuted.length > 0 && !causes.some(it => it.of === "fault");
+
 /** The columns: name, class, and what it is sorted by. */
 const COLUMNS = /** @type {[string, string, (session: Session) => string | number][]} */ ([
   ["fault", "", nameOf],
@@ -1059,8 +1068,11 @@ const FILTERS = /** @type {[string, (session: Session) => (string | null)[]][]} 
   ["class", it => [it.class]],
   ["node", nodesOf],
   ["client", it => [it.client]],
-  ["cause", causesOf],
+  ["cause", it => [...new Set(causesOf(it)), isUnknown(it) ? NO_CAUSE : null]],
 ]);
+
+/** The number of a filter. @param {string | null} name */
+const filterOf = name => FILTERS.findIndex(([it]) => it === name);
 
 /** @param {Session} session */
 const wordsOf = session => [session.pid, ...session.alike, session.off, session.client, session.nsp, session.fault, session.class, ...nodesOf(session),
@@ -1099,7 +1111,7 @@ class SessionList {
   selectOf(name, values) {
     /** @type {Map<string, number>} */
     const counts = new Map();
-    const isShared = name === "fault" || name === "class";
+    const isShared = name === "fault" || name === "class" || name === "cause";
     for (const it of this.sessions) {
       for (const value of values(it)) if (value !== null) counts.set(value, (counts.get(value) ?? 0) + (isShared ? sizeOf([it]) : 1));
     }
@@ -1113,7 +1125,7 @@ class SessionList {
    * @param {string} name @param {string} value
    */
   choose(name, value) {
-    const select = this.selects[name === "fault" ? 0 : 1];
+    const select = this.selects[filterOf(name)];
     select.value = select.value === value ? "" : value;
     this.update();
   }
@@ -1137,7 +1149,7 @@ class SessionList {
     const [, , key] = COLUMNS[this.column] ?? [];
     if (key) this.found.sort((a, b) => (key(a) < key(b) ? -this.step : key(a) > key(b) ? this.step : 0));
     for (const it of document.querySelectorAll("[data-by]")) {
-      const value = asked[it.getAttribute("data-by") === "fault" ? 0 : 1];
+      const value = asked[filterOf(it.getAttribute("data-by"))];
       it.setAttribute("aria-pressed", String(value === it.getAttribute("data-value")));
     }
     const [found, all, size] = [this.found.length, this.sessions.length, sizeOf(this.sessions)];

@@ -1,17 +1,28 @@
 -- The JSON of a summary: members in the byte order of their names.
-use Rattle.std.specs.Prelude.{ℕ, List, codes}
-use Rattle.serde_json.specs.Data.{Data, Members, number, object, unsigned, no_members, member}
+use Rattle.std.specs.Prelude.{ℕ, List, codes, fold}
+use Rattle.serde_json.specs.Data.{Data, Members, number, object, unsigned, no_members, member, put}
 use Rattle.serde_json.specs.Written.{compact_text}
+use Rattle.aud_node.specs.Stream.{Text}
+use Rattle.aud_summary.specs.declared.causes.CausesTold.{CausesTold}
 use Rattle.aud_summary.specs.declared.classes.Classes.{Classes}
 use Rattle.aud_summary.specs.declared.entries.Entries.{Entries}
 use Rattle.aud_summary.specs.declared.faults.Faults.{Faults}
 use Rattle.aud_summary.specs.declared.recoveries.Recoveries.{Recoveries}
 use Rattle.aud_summary.specs.declared.summary.Summary.{Summary}
 use Rattle.aud_summary.specs.declared.tails.Tails.{Tails}
+use Rattle.aud_summary.specs.Causes.{cause_names, count_unknown, count_with}
 
 -- a member that is a whole number, in front of others
 abbrev pub figure : List ℕ → ℕ → Members → Members
 figure name n others = member name (number (unsigned n)) others
+
+-- a cause among others, with how many sessions have it
+abbrev pub with_cause : List CausesTold → Members → Text → Members
+with_cause told others id = put id (number (unsigned (count_with told id))) others
+
+-- all causes, also those that no session has
+abbrev pub causes_data : List CausesTold → Data
+causes_data told = object (fold (with_cause told) no_members cause_names)
 
 abbrev pub classes_data : Classes → Data
 classes_data c = object (figure (codes "delivery") c.delivery (figure (codes "packets") c.packets (figure (codes "recording") c.recording no_members)))
@@ -52,32 +63,34 @@ abbrev pub tails_data : Tails → Data
 tails_data t = object (figure (codes "events") t.events (figure (codes "sessions") t.sessions no_members))
 
 -- the figures up to `lines`, in front of others
-abbrev pub first_figures : Summary → Members → Members
-first_figures s others =
+abbrev pub first_figures : Summary → List CausesTold → Members → Members
+first_figures s told others =
     figure (codes "bytes") s.input.bytes
+    (member (codes "causes") (causes_data told)
     (member (codes "class") (classes_data s.classes)
     (member (codes "entries") (entries_data s.entries)
     (member (codes "fault") (faults_data s.faults)
-    (figure (codes "lines") s.input.lines others))))
+    (figure (codes "lines") s.input.lines others)))))
 
 -- the figures after it
-abbrev pub other_figures : Summary → Members
-other_figures s =
+abbrev pub other_figures : Summary → List CausesTold → Members
+other_figures s told =
     figure (codes "no") s.no
+    (figure (codes "no_known_cause") (count_unknown told)
     (member (codes "recoveries") (recoveries_data s.recoveries)
     (figure (codes "seconds") s.input.seconds
     (figure (codes "sessions") s.sessions
     (member (codes "tail") (tails_data s.tails)
     (figure (codes "unobserved") s.unobserved
-    (figure (codes "yes") s.yes no_members))))))
+    (figure (codes "yes") s.yes no_members)))))))
 
-abbrev pub figures_data : Summary → Data
-figures_data s = object (first_figures s (other_figures s))
+abbrev pub figures_data : Summary → List CausesTold → Data
+figures_data s told = object (first_figures s told (other_figures s told))
 
 -- `{"summary":{..},"v":1}`
-abbrev pub summary_data : Summary → Data
-summary_data s = object (member (codes "summary") (figures_data s) (figure (codes "v") 1 no_members))
+abbrev pub summary_data : Summary → List CausesTold → Data
+summary_data s told = object (member (codes "summary") (figures_data s told) (figure (codes "v") 1 no_members))
 
 -- its text
-abbrev pub summary_json : Summary → List ℕ
-summary_json s = compact_text (summary_data s)
+abbrev pub summary_json : Summary → List CausesTold → List ℕ
+summary_json s told = compact_text (summary_data s told)

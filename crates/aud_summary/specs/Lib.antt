@@ -10,6 +10,7 @@ pub mod Answers
 pub mod ByClass
 pub mod ByFault
 pub mod Tails
+pub mod Causes
 pub mod Meaning
 pub mod Text
 pub mod Json

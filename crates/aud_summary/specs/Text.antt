@@ -1,5 +1,7 @@
 -- The text of a summary: a line for each group of figures.
-use Rattle.std.specs.Prelude.{ℕ, zero, suc, List, [], ◌++◌, codes, decimal}
+use Rattle.std.specs.Prelude.{ℕ, zero, suc, List, [], ◌++◌, codes, decimal, flat_map}
+use Rattle.aud_node.specs.Stream.{Text}
+use Rattle.aud_summary.specs.declared.causes.CausesTold.{CausesTold}
 use Rattle.aud_summary.specs.declared.classes.Classes.{Classes}
 use Rattle.aud_summary.specs.declared.entries.Entries.{Entries}
 use Rattle.aud_summary.specs.declared.faults.Faults.{Faults}
@@ -7,6 +9,7 @@ use Rattle.aud_summary.specs.declared.recoveries.Recoveries.{Recoveries}
 use Rattle.aud_summary.specs.declared.summary.Input.{Input}
 use Rattle.aud_summary.specs.declared.summary.Summary.{Summary}
 use Rattle.aud_summary.specs.declared.tails.Tails.{Tails}
+use Rattle.aud_summary.specs.Causes.{cause_names, count_unknown, count_with}
 
 -- how the sessions were answered
 abbrev pub answers_line : Summary → List ℕ
@@ -44,6 +47,19 @@ classes_lines c f =
     ++ class_line (codes "packets") c.packets (packets_items f)
     ++ class_line (codes "delivery") c.delivery (delivery_items f)
 
+-- how many sessions have such a cause; nothing where none has
+abbrev pub count_line : List ℕ → List ℕ → ℕ → List ℕ
+count_line kind cause zero = []
+count_line kind cause (suc more) = codes "  " ++ kind ++ codes " " ++ cause ++ codes ": " ++ decimal (suc more) ++ codes "\n"
+
+-- how many have this one
+abbrev pub cause_line : List CausesTold → Text → List ℕ
+cause_line told id = count_line (codes "cause") id (count_with told id)
+
+-- the causes that were told, and how many sessions have a fault of which no known cause holds
+abbrev pub causes_lines : List CausesTold → List ℕ
+causes_lines told = flat_map (cause_line told) cause_names ++ count_line (codes "no known") (codes "cause") (count_unknown told)
+
 abbrev pub unobserved_line : ℕ → List ℕ
 unobserved_line count = codes "sessions that no client named: " ++ decimal count ++ codes "\n"
 
@@ -66,9 +82,9 @@ meaning_line zero recoverable = codes "nothing was judged: no session was record
 meaning_line (suc more) zero = codes "a yes says nothing here: no entry of the stream is recoverable\n"
 meaning_line (suc more) (suc others) = []
 
--- all of it
-abbrev pub summary_text : Summary → List ℕ
-summary_text s =
-    answers_line s ++ classes_lines s.classes s.faults ++ unobserved_line s.unobserved ++ tails_line s.tails
+-- all of it, with what was told of causes
+abbrev pub summary_text : Summary → List CausesTold → List ℕ
+summary_text s told =
+    answers_line s ++ classes_lines s.classes s.faults ++ causes_lines told ++ unobserved_line s.unobserved ++ tails_line s.tails
     ++ recoveries_line s.recoveries ++ entries_line s.entries ++ input_line s.input
     ++ meaning_line s.sessions s.entries.recoverable

@@ -1,9 +1,11 @@
 //! A summary as JSON.
-ghost use Rattle.std.specs.Prelude.{◌≡◌, IfOk, OnOk, string_bytes};
+ghost use Rattle.std.specs.Prelude.{◌≡◌, IfOk, OnOk, fold, map, string_bytes};
 ghost use Rattle.serde_json.specs.Data.{no_members, number, put, unsigned};
 ghost use Rattle.serde_json.specs.View.{members_view, view};
-ghost use Rattle.aud_summary.specs.Json.{classes_data, entries_data, faults_data, figures_data, first_faults, first_figures, recoveries_data, summary_data, summary_json, tails_data};
+ghost use Rattle.aud_summary.specs.Causes.{name_of};
+ghost use Rattle.aud_summary.specs.Json.{causes_data, classes_data, entries_data, faults_data, figures_data, first_faults, first_figures, recoveries_data, summary_data, summary_json, tails_data, with_cause};
 
+use crate::causes::{CausesTold, cause_names, count_unknown, count_with};
 use crate::classes::Classes;
 use crate::entries::Entries;
 use crate::faults::Faults;
@@ -14,26 +16,36 @@ use serde_json::{Map, Value, json, put};
 use std::alloc::{AllocError, Global};
 
 /// The summary as one line of JSON without blanks and without a newline: `{"summary":{..},"v":1}`, where `v` is the
-/// version of the schema. It has every figure, and all classes and faults, with 0 for those that no session has; the
-/// members of each object stand in the byte order of their names.
-pub fn summary_json(alloc: Global, summary: &Summary) -> Result<String, AllocError>
-    ensures { IfOk result (λ text. string_bytes text ≡ summary_json summary.now) }
+/// version of the schema. It has every figure, and all classes, faults and causes, with 0 for those that no session has;
+/// the members of each object stand in the byte order of their names.
+pub fn summary_json(
+    alloc: Global,
+    summary: &Summary,
+    told: &[CausesTold],
+) -> Result<String, AllocError>
+    ensures { IfOk result (λ text. string_bytes text ≡ summary_json summary.now told.now) }
 {
-    let value = summary_value(alloc, summary)?;
+    let value = summary_value(alloc, summary, told)?;
     value.to_string(alloc)
 }
 
-fn summary_value(alloc: Global, summary: &Summary) -> Result<Value, AllocError>
-    ensures { IfOk result (λ value. view value ≡ summary_data summary.now) }
+fn summary_value(alloc: Global, summary: &Summary, told: &[CausesTold]) -> Result<Value, AllocError>
+    ensures { IfOk result (λ value. view value ≡ summary_data summary.now told.now) }
 {
-    json!(in alloc; {"summary": figures_value(alloc, summary)?, "v": 1u64})
+    json!(in alloc; {"summary": figures_value(alloc, summary, told)?, "v": 1u64})
 }
 
-fn figures_value(alloc: Global, summary: &Summary) -> Result<Value, AllocError>
-    ensures { IfOk result (λ value. view value ≡ figures_data summary.now) }
+fn figures_value(alloc: Global, summary: &Summary, told: &[CausesTold]) -> Result<Value, AllocError>
+    ensures { IfOk result (λ value. view value ≡ figures_data summary.now told.now) }
 {
-    let mut map = first_figures(alloc, summary)?;
+    let mut map = first_figures(alloc, summary, told)?;
     put_figure(&mut map, alloc, "no", summary.no)?;
+    put(
+        &mut map,
+        alloc,
+        "no_known_cause",
+        Value::from(count_unknown(told)),
+    )?;
     put(
         &mut map,
         alloc,
@@ -54,11 +66,17 @@ fn figures_value(alloc: Global, summary: &Summary) -> Result<Value, AllocError>
 }
 
 /// The members of the figures up to `lines`.
-fn first_figures(alloc: Global, summary: &Summary) -> Result<Map<String, Value>, AllocError>
-    ensures { IfOk result (λ map. members_view map.entries ≡ first_figures summary.now no_members) }
+fn first_figures(
+    alloc: Global,
+    summary: &Summary,
+    told: &[CausesTold],
+) -> Result<Map<String, Value>, AllocError>
+    ensures { IfOk result (λ map. members_view map.entries
+        ≡ first_figures summary.now told.now no_members) }
 {
     let mut map = Map::new(alloc);
     put(&mut map, alloc, "bytes", Value::from(summary.input.bytes))?;
+    put(&mut map, alloc, "causes", causes_value(alloc, told)?)?;
     put(
         &mut map,
         alloc,
@@ -78,6 +96,29 @@ fn first_figures(alloc: Global, summary: &Summary) -> Result<Map<String, Value>,
         faults_value(alloc, &summary.faults)?,
     )?;
     put(&mut map, alloc, "lines", Value::from(summary.input.lines))?;
+    Ok(map)
+}
+
+fn causes_value(alloc: Global, told: &[CausesTold]) -> Result<Value, AllocError>
+    ensures { IfOk result (λ value. view value ≡ causes_data told.now) }
+{
+    let map = with_causes(alloc, cause_names(), told)?;
+    Ok(Value::Object(map))
+}
+
+/// The members for these causes.
+fn with_causes(
+    alloc: Global,
+    names: &[&'static str],
+    told: &[CausesTold],
+) -> Result<Map<String, Value>, AllocError>
+    ensures { IfOk result (λ made. members_view made.entries
+        ≡ fold (with_cause told.now) no_members (map name_of names.now)) }
+{
+    let mut map = Map::new(alloc);
+    for name in names {
+        put(&mut map, alloc, name, Value::from(count_with(told, name)))?;
+    }
     Ok(map)
 }
 

@@ -1,6 +1,7 @@
 //! The figures of a recording: how its sessions were answered, and what was in it.
 //!
-//! Begin at [`summary_of`]; [`summary_text`] and [`summary_json`] write what it gives.
+//! Begin at [`summary_of`]; [`summary_text`] and [`summary_json`] write what it gives, and how many sessions have each
+//! cause.
 //!
 //! With the `recording` of `examples/bundle_a.jsonl`, its one verdict a yes, no recovery asked for, and `input` the 11
 //! lines of the bundle:
@@ -15,6 +16,7 @@
 #![tactic(auto)]
 
 mod answers;
+mod causes;
 mod classes;
 mod entries;
 mod faults;
@@ -24,6 +26,7 @@ mod summary;
 mod tails;
 mod text;
 
+pub use causes::{CausesTold, cause_names};
 pub use classes::Classes;
 pub use entries::Entries;
 pub use faults::Faults;

@@ -1,7 +1,9 @@
 //! A summary as lines.
-ghost use Rattle.std.specs.Prelude.{◌≡◌, ◌++◌, IfOk, OnOk, codes, string_bytes};
-ghost use Rattle.aud_summary.specs.Text.{answers_line, class_line, classes_lines, delivery_items, entries_line, fault_item, input_line, meaning_line, packets_items, recording_items, recoveries_line, summary_text, tails_line, unobserved_line};
+ghost use Rattle.std.specs.Prelude.{◌≡◌, ◌++◌, IfOk, OnOk, codes, flat_map, map, string_bytes};
+ghost use Rattle.aud_summary.specs.Causes.{name_of};
+ghost use Rattle.aud_summary.specs.Text.{answers_line, cause_line, causes_lines, class_line, classes_lines, count_line, delivery_items, entries_line, fault_item, input_line, meaning_line, packets_items, recording_items, recoveries_line, summary_text, tails_line, unobserved_line};
 
+use crate::causes::{CausesTold, cause_names, count_unknown, count_with};
 use crate::classes::Classes;
 use crate::entries::Entries;
 use crate::faults::Faults;
@@ -10,15 +12,20 @@ use crate::summary::{Input, Summary};
 use crate::tails::Tails;
 use std::alloc::{AllocError, Global};
 
-/// The summary as at most ten lines, each ended. Of the classes and the faults those that no session has are left out.
-/// The last line says, where no session was recorded or no entry is recoverable, that the answers mean nothing. No line
-/// is longer than 100 columns where fewer than 10,000 sessions have a fault of delivery.
-pub fn summary_text(alloc: Global, summary: &Summary) -> Result<String, AllocError>
-    ensures { IfOk result (λ text. string_bytes text ≡ summary_text summary.now) }
+/// The summary as lines, each ended: at most ten, and one for each cause that was told. Of the classes and the faults
+/// those that no session has are left out. The last line says, where no session was recorded or no entry is recoverable,
+/// that the answers mean nothing. No line is longer than 100 columns where fewer than 10,000 sessions have a fault of
+/// delivery.
+pub fn summary_text(
+    alloc: Global,
+    summary: &Summary,
+    told: &[CausesTold],
+) -> Result<String, AllocError>
+    ensures { IfOk result (λ text. string_bytes text ≡ summary_text summary.now told.now) }
 {
     let mut out = String::new(alloc);
     push_answers(&mut out, summary)?;
-    push_classes(&mut out, &summary.classes, &summary.faults)?;
+    push_found(&mut out, summary, told)?;
     push_unobserved(&mut out, summary.unobserved)?;
     push_tails(&mut out, &summary.tails)?;
     push_recoveries(&mut out, &summary.recoveries)?;
@@ -34,6 +41,16 @@ fn push_answers(out: &mut String, summary: &Summary) -> Result<(), AllocError>
 {
     let (sessions, yes, no) = (summary.sessions, summary.yes, summary.no);
     writeln!(out, "sessions: {sessions}, yes: {yes}, no: {no}")
+}
+
+/// The classes that have a no, and the causes that were told.
+fn push_found(out: &mut String, summary: &Summary, told: &[CausesTold]) -> Result<(), AllocError>
+    ensures { OnOk result (string_bytes out.new
+        ≡ string_bytes out.old
+        ++ (classes_lines summary.now.classes summary.now.faults ++ causes_lines told.now)) }
+{
+    push_classes(out, &summary.classes, &summary.faults)?;
+    push_causes(out, told)
 }
 
 /// A line for each class that has a no.
@@ -125,6 +142,40 @@ fn push_fault(out: &mut String, word: &str, count: usize) -> Result<(), AllocErr
         return Ok(());
     }
     write!(out, " {word} {count}")
+}
+
+/// A line for each cause that was told, and one for sessions of whose fault no known cause holds.
+fn push_causes(out: &mut String, told: &[CausesTold]) -> Result<(), AllocError>
+    ensures { OnOk result (string_bytes out.new ≡ string_bytes out.old ++ causes_lines told.now) }
+{
+    push_each_cause(out, cause_names(), told)?;
+    push_count(out, "no known", "cause", count_unknown(told))
+}
+
+/// A line for each of these causes that was told.
+fn push_each_cause(
+    out: &mut String,
+    names: &[&'static str],
+    told: &[CausesTold],
+) -> Result<(), AllocError>
+    ensures { OnOk result (string_bytes out.new
+        ≡ string_bytes out.old ++ flat_map (cause_line told.now) (map name_of names.now)) }
+{
+    for name in names {
+        push_count(out, "cause", name, count_with(told, name))?;
+    }
+    Ok(())
+}
+
+/// How many sessions have such a cause, unless none has.
+fn push_count(out: &mut String, kind: &str, cause: &str, count: u64) -> Result<(), AllocError>
+    ensures { OnOk result (string_bytes out.new
+        ≡ string_bytes out.old ++ count_line kind.now cause.now count) }
+{
+    if count == 0 {
+        return Ok(());
+    }
+    writeln!(out, "  {kind} {cause}: {count}")
 }
 
 fn push_unobserved(out: &mut String, count: usize) -> Result<(), AllocError>

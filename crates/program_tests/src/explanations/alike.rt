@@ -47,6 +47,7 @@ do: begin a new log, of another name, each time that a node starts.
 
 sessions: 4, yes: 0, no: 4
   recording 4: ORDER 4
+  cause restarted-in-old-log: 4
 sessions that no client named: 4
 *"#,
     // Another node starts again too. R was on both; of T the other one tells it.
@@ -79,6 +80,8 @@ cause restarted-in-old-log (certain, line 14): b started again in its old log.
 do: begin a new log, of another name, each time that a node starts.
 
 sessions: 5, yes: 0, no: 5
+  recording 5: ORDER 5
+  cause restarted-in-old-log: 5
 *"#,
     // A recovery of Q was refused.
     r#"explain
@@ -129,6 +132,9 @@ cause restarted-in-old-log (certain, line 8): a started again in its old log.
 do: begin a new log, of another name, each time that a node starts.
 
 sessions: 4, yes: 0, no: 4
+  recording 4: ORDER 4
+  cause restarted-in-old-log: 2
+sessions that no client named: 4
 *"#,
     r#"explain --json
 @FOUR
@@ -155,6 +161,7 @@ do: record what came as it came: a text as a text, and bytes as bytes.
 
 sessions: 2, yes: 0, no: 2
   packets 2: FRAME 2
+  cause not-a-packet: 2
 *"#,
     r#"explain
 @TWO
@@ -174,6 +181,7 @@ do: record what a client takes in: nothing of a namespace after its DISCONNECT.
 
 sessions: 2, yes: 0, no: 2
   packets 2: ORPHAN 2
+  cause after-disconnect: 2
 *"#,
     // Another fault is each session's own, also where it is the same one.
     r#"explain

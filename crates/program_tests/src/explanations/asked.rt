@@ -212,6 +212,7 @@ cause asked-too-early (certain, lines 11 16, of the ask on line 27): The session
 do: let the client wait longer before it comes back, or the server notice a break sooner.
 
 sessions: 2, yes: 2, no: 0
+  cause asked-too-early: 1
 sessions that no client named: 0
 sessions with a tail: 1, events in tails: 2
 recoveries asked for: 1, granted: 0, refused: 1
@@ -251,6 +252,9 @@ do: tap each node, from its start.
 
 sessions: 3, yes: 2, no: 1
   recording 1: NOLOG 1
+  cause no-offset: 1
+  cause node-not-tapped: 1
+  cause open-not-recorded: 1
 sessions that no client named: 1
 sessions with a tail: 1, events in tails: 1
 recoveries asked for: 3, granted: 0, refused: 3
@@ -279,6 +283,8 @@ cause never-broken (fits, line 38, of the ask on line 27): No log has a break of
 do: let the client wait longer before it comes back, or the server notice a break sooner.
 
 sessions: 2, yes: 2, no: 0
+  cause node-ended-in-turn: 1
+  cause never-broken: 1
 sessions that no client named: 0
 sessions with a tail: 0, events in tails: 0
 recoveries asked for: 2, granted: 1, refused: 1

@@ -52,6 +52,7 @@ cause unknown-offset (certain, line 28, of the ask on line 28): The client asked
 do: take as offset only what a server that recovers put at the end of an event.
 
 sessions: 2, yes: 2, no: 0
+  cause unknown-offset: 1
 sessions that no client named: 0
 sessions with a tail: 0, events in tails: 0
 recoveries asked for: 1, granted: 0, refused: 1

@@ -151,7 +151,11 @@ cause no-offset (certain, line 13, of the ask on line 13): The client asked for 
         no offset.
 do: store the offset of each event, and ask with the last one.
 
-sessions: *"#,
+sessions: 2, yes: 0, no: 2
+  recording 2: NOLOG 1 CHAIN 1
+  cause no-offset: 1
+  no known cause: 1
+sessions that *"#,
     r#"explain --json --pid P
 @NODES
 a {"k":"break","pid":"P","turn":0}

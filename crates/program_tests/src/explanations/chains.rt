@@ -167,7 +167,10 @@ cause missing-break (holds, lines 13 24 26 27): The client recovered the session
         that turn broke; no log has its break.
 do: write a node's log unbuffered; look at the disk and at how logs are rotated.
 
-sessions: *"#,
+sessions: 1, yes: 0, no: 1
+  recording 1: CHAIN 1
+  cause missing-break: 1
+sessions that *"#,
     // It is opened again.
     r#"explain
 @NODES
@@ -182,7 +185,10 @@ no one client, turns 2, delivery not judged
     turn 0  b  7 open, cursor 0 == 7 log ends, cursor 0
 no known cause of the fault holds
 
-sessions: *"#,
+sessions: 1, yes: 0, no: 1
+  recording 1: CHAIN 1
+  no known cause: 1
+sessions that *"#,
     // The same, where the two files are named.
     r#"explain n.jsonl m.jsonl
 @NODES

@@ -1,6 +1,7 @@
 //! The figures of a large recording, as text and as JSON.
 use aud_summary::{
-    Classes, Entries, Faults, Input, Recoveries, Summary, Tails, summary_json, summary_text,
+    CausesTold, Classes, Entries, Faults, Input, Recoveries, Summary, Tails, summary_json,
+    summary_text,
 };
 use std::alloc::Global;
 use std::process::Abort;
@@ -56,6 +57,10 @@ const FIGURES_TEXT: &str = "sessions: 268, yes: 213, no: 55
   recording 12: NOLOG 2 CHAIN 1 ORDER 6 NAMES 3
   packets 12: FRAME 8 ORPHAN 4
   delivery 31: CONTENT 10 EXTRA 5 DOUBLED 8 SWAPPED 3 LOST 4 TAIL 1
+  cause no-offset: 1
+  cause extra-live: 9
+  cause missing-break: 1007
+  no known cause: 6
 sessions that no client named: 1
 sessions with a tail: 5, events in tails: 28
 recoveries asked for: 540, granted: 533, refused: 7
@@ -64,22 +69,60 @@ lines: 30000, bytes: 2500000, seconds: 2
 ";
 
 const FIGURES_JSON: &str =
-    r#"{"summary":{"bytes":2500000,"class":{"delivery":31,"packets":12,"recording":12},"entries":{"all":1200,"recoverable":1100},"fault":{"CHAIN":1,"CLIENT":0,"CONTENT":10,"DOUBLED":8,"EXTRA":5,"FRAME":8,"LOST":4,"NAMES":3,"NOLOG":2,"ORDER":6,"ORPHAN":4,"SWAPPED":3,"TAIL":1,"WINDOW":0},"lines":30000,"no":55,"recoveries":{"asked":540,"granted":533,"refused":7},"seconds":2,"sessions":268,"tail":{"events":28,"sessions":5},"unobserved":1,"yes":213},"v":1}"#;
+    r#"{"summary":{"bytes":2500000,"causes":{"after-disconnect":0,"altered":0,"another-encoder":0,"another-event":0,"asked-too-early":0,"attachments-reordered":0,"before-birth":0,"body-came-twice":0,"cleared-after-break":0,"cut-before-reply":0,"doubled-live":0,"entries-skipped-by-node":0,"entry-taken-again":0,"extra-live":9,"join-missing":0,"late-leave":0,"leave-missing":0,"log-ended-early":0,"lost-live":0,"missing-break":1007,"namespace-differs":0,"never-broken":0,"no-client-tap":0,"no-offset":1,"no-start":0,"node-behind-break":0,"node-ended-in-turn":0,"node-not-tapped":0,"not-a-packet":0,"not-in-stream":0,"offset-of-another-session":0,"open-not-recorded":0,"out-after-answer":0,"recovered-twice":0,"reply-missing":0,"reply-without-pid":0,"restarted-in-old-log":0,"rooms-at-break":0,"second-connect":0,"sent-again-after-replay":0,"session-over":0,"sid-differs":0,"skipped-in-window":0,"stale-offset":0,"swapped-live":0,"tap-began-late":0,"turn-not-stored":0,"two-taps":0,"unknown-offset":0},"class":{"delivery":31,"packets":12,"recording":12},"entries":{"all":1200,"recoverable":1100},"fault":{"CHAIN":1,"CLIENT":0,"CONTENT":10,"DOUBLED":8,"EXTRA":5,"FRAME":8,"LOST":4,"NAMES":3,"NOLOG":2,"ORDER":6,"ORPHAN":4,"SWAPPED":3,"TAIL":1,"WINDOW":0},"lines":30000,"no":55,"no_known_cause":6,"recoveries":{"asked":540,"granted":533,"refused":7},"seconds":2,"sessions":268,"tail":{"events":28,"sessions":5},"unobserved":1,"yes":213},"v":1}"#;
+
+/// What explanations told of causes: how many other sessions each is of, whether no known cause holds, and the names.
+static TOLD: [(usize, bool, &[&str]); 4] = [
+    (8, false, &["missing-break", "extra-live", "missing-break"]),
+    (997, false, &["missing-break"]),
+    (0, true, &["no-offset", "no-offset"]),
+    (4, true, &[]),
+];
 
 #[test]
 fn figures(rt: HostRuntime) -> Result<(), Fail> {
-    assert_written(&rt, rt.alloc(), &FIGURES, FIGURES_TEXT, FIGURES_JSON)
+    let alloc = rt.alloc();
+    let mut told = Vec::new(alloc);
+    for (others, is_unknown, names) in &TOLD {
+        let mut ids: Vec<&'static str> = Vec::new(alloc);
+        ids.extend_from_slice(*names)?;
+        told.push(CausesTold {
+            ids,
+            is_unknown: *is_unknown,
+            others: *others,
+        })?;
+    }
+    assert_written(&rt, alloc, &FIGURES, &told, FIGURES_TEXT, FIGURES_JSON)
 }
 
-/// Asserts that this is the text of the figures, and this their JSON.
+/// A count that is too large is the greatest number of 64 bits.
+#[test]
+fn more_sessions_than_a_count_holds(rt: HostRuntime) -> Result<(), Fail> {
+    let alloc = rt.alloc();
+    let mut told = Vec::new(alloc);
+    for _ in 0..2 {
+        told.push(CausesTold {
+            ids: Vec::new(alloc),
+            is_unknown: true,
+            others: usize::MAX,
+        })?;
+    }
+    let text = summary_text(alloc, &FIGURES, &told)?;
+    let line = "\n  no known cause: 18446744073709551615\n";
+    assert!(rt; text.as_str().contains(line), "{text}");
+    Ok(())
+}
+
+/// Asserts that this is the text of the figures, with what was told of causes, and this their JSON.
 fn assert_written(
     rt: &impl Abort,
     alloc: Global,
     summary: &Summary,
+    told: &[CausesTold],
     text: &str,
     json: &str,
 ) -> Result<(), Fail> {
-    assert_eq!(rt; summary_text(alloc, summary)?.as_str(), text);
-    assert_eq!(rt; summary_json(alloc, summary)?.as_str(), json);
+    assert_eq!(rt; summary_text(alloc, summary, told)?.as_str(), text);
+    assert_eq!(rt; summary_json(alloc, summary, told)?.as_str(), json);
     Ok(())
 }

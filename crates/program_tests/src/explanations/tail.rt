@@ -66,7 +66,7 @@ lines: 17, bytes: 647, seconds: *
 @TAIL
 -> Ok(SomeNo)
 {"alike":[],"also":[{"lines":[4,5],"position":3,"to":4}],"also_left":0,"at_frame":null,"causes":[],"class":"delivery","client":"c1","conn":1,"due":4,"events":[{"after":null,"from":null,"happens":"reply","lines":[15,15],"to":null},{"after":null,"from":1,"happens":"got","lines":[16,16],"to":1},{"after":null,"from":null,"happens":"lost","lines":[17,17],"to":null}],"events_left":0,"evidence":[{"file":null,"file_line":null,"line":16,"of":null,"role":"fault","says":"conn 1 got 1 o1","tap":"c1"},{"file":null,"file_line":null,"line":3,"of":null,"role":"entry","says":"entry 2 o2","tap":"st"},{"file":null,"file_line":null,"line":10,"of":null,"role":"reached","says":"take 2 o2","tap":"a"}],"fault":"TAIL","got":1,"nsp":"/","off":null,"pid":"P","refused":[],"refuted":[],"tail":3,"turns":[{"begin":"open","end":"log","high":4,"lines":[8,12],"low":0,"node":"a","took":[1,4],"turn":0}],"turns_left":0,"v":1,"verdict":"no"}
-{"summary":{"bytes":647,"class":{"delivery":1,"packets":0,"recording":0},"entries":{"all":4,"recoverable":4},"fault":{"CHAIN":0,"CLIENT":0,"CONTENT":0,"DOUBLED":0,"EXTRA":0,"FRAME":0,"LOST":0,"NAMES":0,"NOLOG":0,"ORDER":0,"ORPHAN":0,"SWAPPED":0,"TAIL":1,"WINDOW":0},"lines":17,"no":1,"recoveries":{"asked":0,"granted":0,"refused":0},"seconds":*,"sessions":1,"tail":{"events":3,"sessions":1},"unobserved":0,"yes":0},"v":1}
+{"summary":{"bytes":647,"causes":{"after-disconnect":0,"altered":0,"another-encoder":0,"another-event":0,"asked-too-early":0,"attachments-reordered":0,"before-birth":0,"body-came-twice":0,"cleared-after-break":0,"cut-before-reply":0,"doubled-live":0,"entries-skipped-by-node":0,"entry-taken-again":0,"extra-live":0,"join-missing":0,"late-leave":0,"leave-missing":0,"log-ended-early":0,"lost-live":0,"missing-break":0,"namespace-differs":0,"never-broken":0,"no-client-tap":0,"no-offset":0,"no-start":0,"node-behind-break":0,"node-ended-in-turn":0,"node-not-tapped":0,"not-a-packet":0,"not-in-stream":0,"offset-of-another-session":0,"open-not-recorded":0,"out-after-answer":0,"recovered-twice":0,"reply-missing":0,"reply-without-pid":0,"restarted-in-old-log":0,"rooms-at-break":0,"second-connect":0,"sent-again-after-replay":0,"session-over":0,"sid-differs":0,"skipped-in-window":0,"stale-offset":0,"swapped-live":0,"tap-began-late":0,"turn-not-stored":0,"two-taps":0,"unknown-offset":0},"class":{"delivery":1,"packets":0,"recording":0},"entries":{"all":4,"recoverable":4},"fault":{"CHAIN":0,"CLIENT":0,"CONTENT":0,"DOUBLED":0,"EXTRA":0,"FRAME":0,"LOST":0,"NAMES":0,"NOLOG":0,"ORDER":0,"ORPHAN":0,"SWAPPED":0,"TAIL":1,"WINDOW":0},"lines":17,"no":1,"no_known_cause":0,"recoveries":{"asked":0,"granted":0,"refused":0},"seconds":*,"sessions":1,"tail":{"events":3,"sessions":1},"unobserved":0,"yes":0},"v":1}
 "#,
     r#"explain --whole
 @NOTHING
@@ -146,6 +146,7 @@ do: let the client wait longer before it comes back, or the server notice a brea
 
 sessions: 2, yes: 1, no: 1
   delivery 1: TAIL 1
+  cause asked-too-early: 1
 sessions that no client named: 0
 sessions with a tail: 1, events in tails: 2
 recoveries asked for: 1, granted: 0, refused: 1

@@ -21,7 +21,8 @@ returns-clause-explaining g c =
     let lines = c.args.sheet.lines.now in
     let files = c.args.files.now in
     let options = c.args.options.now in
-    let text = string_bytes c.in_ok-told.told in
+    let text = string_bytes c.in_ok-told.told.text in
+    let causes = c.in_ok-told.told.causes.items in
     let known = ap pids_of c.deref-2.ensures.value ∙ known_pids recording options.whole c.args.verdicts.items _ c.requires c.in_ok-add_strangers.ensures in
     record {
       verdicts = c.args.verdicts.items;
@@ -30,10 +31,11 @@ returns-clause-explaining g c =
       are_sessions = c.in_ok-add_strangers.ensures;
       none_missing = ap (λ pids. first_missing pids options.pids) (sym known) ∙ c.in_ok-told.ensures.none_missing;
       texts = text;
-      are_texts = subst (λ sessions. AddTexts recording lines (form_of options.form) files (tellings recording options.pids (sessions_chosen recording options.only options.pids sessions)) [] text) c.deref-2.ensures.value c.in_ok-told.ensures.told;
+      causes = causes;
+      are_texts = subst (λ sessions. AddTexts recording lines (form_of options.form) files (tellings recording options.pids (sessions_chosen recording options.only options.pids sessions)) [] text [] causes) c.deref-2.ensures.value c.in_ok-told.ensures.told;
       figures = c.figures_of-figures.result;
       are_figures = subst (λ verdicts. AreFigures options recording c.args.size verdicts c.figures_of-figures.result) c.deref.ensures.value c.figures_of-figures.ensures;
       seconds = c.seconds_since.result;
-      text_is = c.in_ok-push_summary.ensures ∙ (λ i. text ++ summary_in (c.form_of.ensures i) (c.timed-summary.ensures i));
+      text_is = c.in_ok-push_summary.ensures ∙ (λ i. text ++ summary_in (c.form_of.ensures i) (c.timed-summary.ensures i) (c.deref-3.ensures.value i));
       status_is = refl;
     }

@@ -1,8 +1,10 @@
-use Rattle.std.proofs.Common.{◌∙◌, ℕ, List, ap, map, string_bytes, subst}
+use Rattle.std.proofs.Common.{◌∙◌, ℕ, List, ap, length, map, string_bytes, subst, sym}
 use Rattle.std.specs.Borrow.{Bor}
+use Rattle.std.proofs.lemmas.List.{length-map}
 use Rattle.std.proofs.lemmas.Result.{IfOk-weaker}
 use Rattle.aud_explain_app.specs.Alike.{telling_of}
 use Rattle.aud_explain_app.specs.Asked.{refused_of}
+use Rattle.aud_explain_app.specs.CausesTold.{AreCausesTold}
 use Rattle.aud_explain_app.specs.Written.{IsWritten}
 use Rattle.aud_explain_app.proofs.Steps.{text_by}
 use Rattle.aud_explain_app.proofs.sessions.text_of.Goals as goal
@@ -10,10 +12,16 @@ use Rattle.aud_explain_app.proofs.sessions.text_of.Goals as goal
 pub returns : goal.returns
 returns c =
     let recording = c.args.sheet.recording.now in
-    IfOk-weaker c.written.result _ _ (λ text written.
-    text_by recording c.args.sheet.lines.now c.args.layout.form c.args.layout.files.now (telling_of c.args.session.now) _ _ c.in_ok-explained.explained (string_bytes text)
+    let t = telling_of c.args.session.now in
+    let explained = c.in_ok-explained.explained in
+    let names : List (Bor (List ℕ)) → List (List ℕ) = map (λ (other : Bor (List ℕ)). other.now) in
+    IfOk-weaker c.told_text.result _ _ (λ told is.
+    let made =
+    subst (λ (pids : List (Bor (List ℕ))). IsWritten c.args.layout.form c.args.layout.files.now c.as_str-pid.result.now c.args.session.now.session.now.verdict (names pids) explained (string_bytes told.text)
+    × AreCausesTold c.args.session.now.session.now.verdict (length pids) explained told.causes) c.as_slice-alike.ensures.value is
+    in
+    text_by recording c.args.sheet.lines.now c.args.layout.form c.args.layout.files.now t _ _ explained told
     c.as_str-pid.ensures
     (c.as_slice-refused.ensures.value ∙ c.in_ok-refused.ensures recording c.requires.asked ∙ ap (refused_of recording) c.as_str-pid.ensures)
-    c.in_ok-explained.ensures
-    (subst (λ (pids : List (Bor (List ℕ))). IsWritten c.args.layout.form c.args.layout.files.now c.as_str-pid.result.now c.args.session.now.session.now.verdict (map (λ other. other.now) pids) c.in_ok-explained.explained (string_bytes text))
-    c.as_slice-alike.ensures.value written)) c.written.ensures
+    c.in_ok-explained.ensures made.0
+    (subst (λ n. AreCausesTold t.session.verdict n explained told.causes) (sym (length-map c.args.session.now.alike.items (λ (other : Bor (List ℕ)). other.now))) made.1)) c.told_text.ensures

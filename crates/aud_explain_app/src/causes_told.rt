@@ -1,0 +1,65 @@
+//! What the explanation of a session tells of causes.
+ghost use Rattle.std.specs.Prelude.{◌≡◌, ◌++◌, IfOk, OnOk, map};
+ghost use Rattle.aud_summary.specs.Causes.{name_of};
+ghost use Rattle.aud_explain_app.specs.CausesTold.{AreCausesTold, is_unknown, names_of, names_of_refusals};
+
+use crate::explained::Explained;
+use crate::refused_told::RefusedTold;
+use aud_causes::{CauseFound, refuted};
+use aud_summary::CausesTold;
+use aud_verdict::Verdict;
+use std::alloc::{AllocError, Global};
+
+/// The names of the causes that are told of the session, on which this is the verdict, and with which so many others are
+/// told.
+pub(crate) fn causes_told(
+    alloc: Global,
+    verdict: &Verdict,
+    others: usize,
+    explained: &Explained<'_>,
+) -> Result<CausesTold, AllocError>
+    ensures { IfOk result (AreCausesTold verdict.now others explained.now) }
+{
+    let is_unknown = is_unknown(alloc, verdict, &explained.causes)?;
+    let mut ids: Vec<&'static str> = Vec::new(alloc);
+    push_names(&mut ids, &explained.causes)?;
+    push_refused(&mut ids, &explained.refused)?;
+    Ok(CausesTold {
+        ids,
+        is_unknown,
+        others,
+    })
+}
+
+/// Whether causes of the fault are known, and none of them is told.
+fn is_unknown(alloc: Global, verdict: &Verdict, causes: &[CauseFound]) -> Result<bool, AllocError>
+    ensures { IfOk result (λ unknown. unknown ≡ is_unknown verdict.now causes.now) }
+{
+    if !causes.is_empty() {
+        return Ok(false);
+    }
+    let ids = refuted(alloc, verdict, causes)?;
+    Ok(!ids.is_empty())
+}
+
+/// Adds the names of these causes.
+fn push_names(ids: &mut Vec<&'static str>, causes: &[CauseFound]) -> Result<(), AllocError>
+    ensures { OnOk result (map name_of ids.new.items
+        ≡ map name_of ids.old.items ++ names_of causes.now) }
+{
+    for cause in causes {
+        ids.push(cause.id)?;
+    }
+    Ok(())
+}
+
+/// Adds those of the causes of these refusals.
+fn push_refused(ids: &mut Vec<&'static str>, refused: &[RefusedTold<'_>]) -> Result<(), AllocError>
+    ensures { OnOk result (map name_of ids.new.items
+        ≡ map name_of ids.old.items ++ names_of_refusals refused.now) }
+{
+    for told in refused {
+        push_names(ids, &told.causes)?;
+    }
+    Ok(())
+}
