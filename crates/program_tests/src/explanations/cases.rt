@@ -138,12 +138,17 @@ fn is_told(written: &str, text: &str) -> bool {
 
 /// Whether these parts stand in the text, one after the other, and the last part at its end.
 fn has_parts(text: &str, parts: &str, last: &str) -> bool {
-    let mut left = text;
-    for part in parts.split('*') {
-        match left.split_once(part) {
-            Some((_, after)) => left = after,
-            None => return false,
-        }
+    let left = parts
+        .split('*')
+        .try_fold(text, |left: &str, part: &str| past(left, part));
+    match left {
+        Some(left) => left.ends_with(last),
+        None => false,
     }
-    left.ends_with(last)
+}
+
+/// What the text has after the part, if it has it.
+fn past<'t>(text: &'t str, part: &str) -> Option<&'t str> {
+    let (_, after) = text.split_once(part)?;
+    Some(after)
 }
