@@ -34,7 +34,7 @@ candidates (fault.Doubled off) =
     ∷ codes "body-came-twice" ∷ codes "doubled-live" ∷ []
 candidates (fault.Swapped off) = codes "node-behind-break" ∷ codes "swapped-live" ∷ []
 candidates (fault.Lost off) =
-    codes "rooms-at-break" ∷ codes "skipped-in-window" ∷ codes "offset-of-another-session"
+    codes "rooms-at-break" ∷ codes "skipped-in-window" ∷ codes "offset-of-another-session" ∷ codes "frame-not-recorded"
     ∷ codes "lost-live" ∷ codes "leave-missing" ∷ []
 candidates (fault.Window conn) = codes "no-offset" ∷ codes "unknown-offset" ∷ codes "stale-offset" ∷ codes "offset-of-another-session" ∷ []
 candidates (fault.Tail count) = []

@@ -14,7 +14,7 @@ use Rattle.aud_session_facts.specs.Reasons.{Reason}
 use Rattle.aud_session_facts.specs.NotDue.{why_not_due}
 use Rattle.aud_session_facts.specs.declared.account.Account.{Account}
 use Rattle.aud_causes.specs.declared.cause.Cause.{Cause}
-use Rattle.aud_causes.specs.declared.cause.Cause.TheVariants.{OffsetOfAnotherSession}
+use Rattle.aud_causes.specs.declared.cause.Cause.TheVariants.{OffsetOfAnotherSession, FrameNotRecorded}
 use Rattle.aud_causes.specs.declared.facts.Facts.{Facts}
 use Rattle.aud_causes.specs.Facts.{facts_of}
 use Rattle.aud_causes.specs.Delivery.{cause_if, held, doubled_live, swapped_live, lost_live, sent_again, stale_offset, skipped_in_window}
@@ -69,6 +69,14 @@ abbrev pub other_session_after : List ℕ → Facts → Option Cause
 other_session_after due f =
     option_and_then (λ after. cause_if (nat_le f.parted.position after && not (has_position due after)) (OffsetOfAnotherSession f.later after)) f.asked
 
+-- ---- a frame that the tap doesn't have
+
+-- the client asked in the later stay to go on after an entry that was due to the session, and is the one in question or
+-- comes after it: up to there its tap has frames of the entries before alone
+abbrev pub frame_not_recorded : List ℕ → Facts → Option Cause
+frame_not_recorded due f =
+    option_and_then (λ after. cause_if (nat_le f.parted.position after && has_position due after) (FrameNotRecorded f.later after)) f.asked
+
 -- ---- the causes, in their order
 
 -- the cause, if it holds, before these
@@ -90,10 +98,11 @@ abbrev pub swapped_causes : Cluster → List TurnSeen → Facts → List Cause
 swapped_causes c turns f = held (node_behind c turns f ∷ swapped_live f ∷ [])
 
 -- of an entry that was lost, where this holds of the rooms at the break, and of a `leave`: the first; it was left out of
--- the replay; the offset was another session's; it was left out while the client was connected; the `leave` is missing
+-- the replay; the offset was another session's; its frame was not recorded; it was left out while the client was
+-- connected; the `leave` is missing
 abbrev pub lost_causes : Option Cause → List ℕ → Option Cause → Facts → List Cause
 lost_causes at_break due leave f =
-    held (at_break ∷ skipped_in_window f ∷ other_session_after due f ∷ lost_live f ∷ leave ∷ [])
+    held (at_break ∷ skipped_in_window f ∷ other_session_after due f ∷ frame_not_recorded due f ∷ lost_live f ∷ leave ∷ [])
 
 -- the same of a session's entry
 abbrev pub lost_in : Case → Facts → List Cause

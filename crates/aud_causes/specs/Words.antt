@@ -7,7 +7,7 @@ use Rattle.aud_causes.specs.declared.why.Figure.TheVariants.{Name, Number, Nth}
 use Rattle.aud_causes.specs.Filled.{figure_text, filled}
 use Rattle.aud_causes.specs.NoPacket.{advice, no_packet_figures, no_packet_words}
 use Rattle.aud_causes.specs.declared.cause.Cause.{Cause}
-use Rattle.aud_causes.specs.declared.cause.Cause.TheVariants.{NodeBehindBreak, SentAgainAfterReplay, StaleOffset, BodyCameTwice, OffsetOfAnotherSession, UnknownOffset, NoOffset, RoomsAtBreak, SkippedInWindow, LostLive, DoubledLive, SwappedLive, AnotherEncoder, AttachmentsReordered, AnotherEvent, Altered, LogEndedEarly, LateLeave, BeforeBirth, ExtraLive, JoinMissing, LeaveMissing, MissingBreak, ClearedAfterBreak, TurnNotStored, RecoveredTwice, OpenNotRecorded, NodeNotTapped, NoStart, RestartedInOldLog, EntriesSkippedByNode, EntryTakenAgain, NotInStream, TwoTaps, NoClientTap, ReplyMissing, SidDiffers, NamespaceDiffers, NotAPacket, TapBeganLate, CutBeforeReply, ReplyWithoutPid, OutAfterAnswer, SecondConnect, AfterDisconnect, SessionOver, NodeEndedInTurn, NeverBroken, AskedTooEarly}
+use Rattle.aud_causes.specs.declared.cause.Cause.TheVariants.{NodeBehindBreak, SentAgainAfterReplay, StaleOffset, BodyCameTwice, OffsetOfAnotherSession, FrameNotRecorded, UnknownOffset, NoOffset, RoomsAtBreak, SkippedInWindow, LostLive, DoubledLive, SwappedLive, AnotherEncoder, AttachmentsReordered, AnotherEvent, Altered, LogEndedEarly, LateLeave, BeforeBirth, ExtraLive, JoinMissing, LeaveMissing, MissingBreak, ClearedAfterBreak, TurnNotStored, RecoveredTwice, OpenNotRecorded, NodeNotTapped, NoStart, RestartedInOldLog, EntriesSkippedByNode, EntryTakenAgain, NotInStream, TwoTaps, NoClientTap, ReplyMissing, SidDiffers, NamespaceDiffers, NotAPacket, TapBeganLate, CutBeforeReply, ReplyWithoutPid, OutAfterAnswer, SecondConnect, AfterDisconnect, SessionOver, NodeEndedInTurn, NeverBroken, AskedTooEarly}
 
 -- the name of the cause, for scripts
 abbrev pub id_text : Cause → List ℕ
@@ -16,6 +16,7 @@ id_text (SentAgainAfterReplay first again low) = codes "sent-again-after-replay"
 id_text (StaleOffset stay after) = codes "stale-offset"
 id_text (BodyCameTwice first again) = codes "body-came-twice"
 id_text (OffsetOfAnotherSession stay after) = codes "offset-of-another-session"
+id_text (FrameNotRecorded stay after) = codes "frame-not-recorded"
 id_text (UnknownOffset stay) = codes "unknown-offset"
 id_text (NoOffset stay) = codes "no-offset"
 id_text (RoomsAtBreak stay after low) = codes "rooms-at-break"
@@ -68,6 +69,7 @@ todo_text (SentAgainAfterReplay first again low) = codes "let the replay end at 
 todo_text (StaleOffset stay after) = codes "store the offset with each event, before the event is worked on."
 todo_text (BodyCameTwice first again) = codes "see whether the client refused that body, for its packets are too many or too long."
 todo_text (OffsetOfAnotherSession stay after) = codes "drop the offset when a new session opens."
+todo_text (FrameNotRecorded stay after) = codes "see whether the client's tap lost records; else look at where the client has the offset from."
 todo_text (UnknownOffset stay) = codes "take as offset only what a server that recovers put at the end of an event."
 todo_text (NoOffset stay) = codes "store the offset of each event, and ask with the last one."
 todo_text (RoomsAtBreak stay after low) = codes "join again after a recovery, or accept it: public adapters replay by the rooms at the break."
@@ -135,6 +137,7 @@ why_words (SentAgainAfterReplay first again low) = codes "The replay ran past th
 why_words (StaleOffset stay after) = codes "The client asked to go on after entry #, and had later ones already."
 why_words (BodyCameTwice first again) = codes "From this entry on, all that came before the recovery had come in one body of polling."
 why_words (OffsetOfAnotherSession stay after) = codes "The client asked to go on after entry #, which was not due to this session."
+why_words (FrameNotRecorded stay after) = codes "The client asked to go on after entry #, of which its tap has no frame: it may have had it."
 why_words (UnknownOffset stay) = codes "The client asked to go on after an offset that no entry of the stream has."
 why_words (NoOffset stay) = codes "The client asked for the session and gave no offset."
 why_words (RoomsAtBreak stay after low) = codes "Of the entries after # up to #, exactly those came that are for the rooms held at the break."
@@ -186,6 +189,7 @@ why_figures (NodeBehindBreak broke back high low) = Name ∷ Number low ∷ Numb
 why_figures (SentAgainAfterReplay first again low) = Number low ∷ []
 why_figures (StaleOffset stay after) = Number after ∷ []
 why_figures (OffsetOfAnotherSession stay after) = Number after ∷ []
+why_figures (FrameNotRecorded stay after) = Number after ∷ []
 why_figures (RoomsAtBreak stay after low) = Number after ∷ Number low ∷ []
 why_figures (SkippedInWindow stay after low) = Number after ∷ Number low ∷ []
 why_figures (AnotherEncoder frame part) = part_figures part

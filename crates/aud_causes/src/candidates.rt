@@ -70,10 +70,11 @@ static DOUBLED: [&str; 5] = [
 
 static SWAPPED: [&str; 2] = ["node-behind-break", "swapped-live"];
 
-static LOST: [&str; 5] = [
+static LOST: [&str; 6] = [
     "rooms-at-break",
     "skipped-in-window",
     "offset-of-another-session",
+    "frame-not-recorded",
     "lost-live",
     "leave-missing",
 ];

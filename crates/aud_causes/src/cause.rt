@@ -39,6 +39,11 @@ pub enum Cause {
         stay: usize,
         after: u64,
     },
+    /// The client asked to go on after this entry, which was due to the session, and of which its tap has no frame.
+    FrameNotRecorded {
+        stay: usize,
+        after: u64,
+    },
     /// The client asked to go on after an offset that the stream doesn't have.
     UnknownOffset {
         stay: usize,
@@ -257,6 +262,7 @@ impl Cause {
             Cause::StaleOffset { .. } => "stale-offset",
             Cause::BodyCameTwice { .. } => "body-came-twice",
             Cause::OffsetOfAnotherSession { .. } => "offset-of-another-session",
+            Cause::FrameNotRecorded { .. } => "frame-not-recorded",
             Cause::UnknownOffset { .. } => "unknown-offset",
             Cause::NoOffset { .. } => "no-offset",
             Cause::RoomsAtBreak { .. } => "rooms-at-break",
@@ -318,6 +324,8 @@ impl Cause {
             Cause::BodyCameTwice { .. } =>
                 "see whether the client refused that body, for its packets are too many or too long.",
             Cause::OffsetOfAnotherSession { .. } => "drop the offset when a new session opens.",
+            Cause::FrameNotRecorded { .. } =>
+                "see whether the client's tap lost records; else look at where the client has the offset from.",
             Cause::UnknownOffset { .. } =>
                 "take as offset only what a server that recovers put at the end of an event.",
             Cause::NoOffset { .. } => "store the offset of each event, and ask with the last one.",

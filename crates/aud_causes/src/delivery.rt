@@ -3,7 +3,7 @@ ghost use Rattle.std.specs.Prelude.{◌≡◌, ℕ, IfOk, List, map, option_map}
 ghost use Rattle.aud_check.specs.Difference.{has_position};
 ghost use Rattle.aud_maker.specs.Made.{IsMade};
 ghost use Rattle.aud_session_facts.specs.NotDue.{reason_of};
-ghost use Rattle.aud_causes.specs.Differences.{case_of, difference_causes, doubled_causes, doubled_in, extra_causes, extra_in, lost_causes, lost_in, offset_of_another, other_session_after, other_session_before, swapped_causes};
+ghost use Rattle.aud_causes.specs.Differences.{case_of, difference_causes, doubled_causes, doubled_in, extra_causes, extra_in, frame_not_recorded, lost_causes, lost_in, offset_of_another, other_session_after, other_session_before, swapped_causes};
 
 use crate::at_break::{first_taken, rooms_at_break};
 use crate::behind::node_behind;
@@ -132,6 +132,7 @@ fn lost_causes(
             at_break,
             skipped_in_window(facts),
             other_session_after(due, facts),
+            frame_not_recorded(due, facts),
             lost_live(facts),
             leave,
         ],
@@ -242,6 +243,21 @@ fn other_session_after(due: &[u64], facts: Facts) -> Option<Cause>
         return None;
     }
     offset_of_another(due, facts.later, after)
+}
+
+/// Where the client asked in the later stay to go on after an entry that was due to the session, and is the one in question
+/// or comes after it.
+fn frame_not_recorded(due: &[u64], facts: Facts) -> Option<Cause>
+    ensures { result ≡ frame_not_recorded due.now facts }
+{
+    let after = facts.asked?;
+    if after < facts.parted.position || !has_position(due, after) {
+        return None;
+    }
+    Some(Cause::FrameNotRecorded {
+        stay: facts.later,
+        after,
+    })
 }
 
 /// Where the entry after which the client asked to go on was not due to the session.

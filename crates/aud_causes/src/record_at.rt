@@ -103,6 +103,7 @@ pub(crate) fn records_of(cause: Cause) -> [Option<RecordAt>; 4]
         | Cause::SwappedLive { first, again } => two(Got(first), Got(again)),
         Cause::StaleOffset { stay, .. }
         | Cause::OffsetOfAnotherSession { stay, .. }
+        | Cause::FrameNotRecorded { stay, .. }
         | Cause::UnknownOffset { stay }
         | Cause::NoOffset { stay } => one(Ask(stay)),
         Cause::RoomsAtBreak { stay, .. } | Cause::SkippedInWindow { stay, .. } => two(

@@ -44,6 +44,8 @@ fn why_words(cause: Cause) -> &'static str
             "From this entry on, all that came before the recovery had come in one body of polling.",
         Cause::OffsetOfAnotherSession { .. } =>
             "The client asked to go on after entry #, which was not due to this session.",
+        Cause::FrameNotRecorded { .. } =>
+            "The client asked to go on after entry #, of which its tap has no frame: it may have had it.",
         Cause::UnknownOffset { .. } =>
             "The client asked to go on after an offset that no entry of the stream has.",
         Cause::NoOffset { .. } => "The client asked for the session and gave no offset.",
@@ -127,11 +129,9 @@ fn why_figures(cause: Cause) -> [Option<Figure>; 3]
     match cause {
         Cause::NodeBehindBreak { high, low, .. } => [name, number(low), number(high)],
         Cause::SentAgainAfterReplay { low, .. } => [number(low), None, None],
-        Cause::StaleOffset { after, .. } | Cause::OffsetOfAnotherSession { after, .. } => [
-            number(after),
-            None,
-            None,
-        ],
+        Cause::StaleOffset { after, .. }
+        | Cause::OffsetOfAnotherSession { after, .. }
+        | Cause::FrameNotRecorded { after, .. } => [number(after), None, None],
         Cause::RoomsAtBreak { after, low, .. } | Cause::SkippedInWindow { after, low, .. } => [
             number(after),
             number(low),

@@ -13,7 +13,7 @@ pub struct CausesTold {
     pub others: usize,
 }
 
-static NAMES: [&str; 49] = [
+static NAMES: [&str; 50] = [
     "node-behind-break",
     "sent-again-after-replay",
     "rooms-at-break",
@@ -21,6 +21,7 @@ static NAMES: [&str; 49] = [
     "stale-offset",
     "body-came-twice",
     "offset-of-another-session",
+    "frame-not-recorded",
     "unknown-offset",
     "no-offset",
     "lost-live",
