@@ -3,7 +3,7 @@ use crate::explanations::cases::assert_cases;
 use std::test::Fail;
 
 /// Texts of these cases, each after its name.
-static TEXTS: [&str; 7] = [
+static TEXTS: [&str; 8] = [
     // Session `P` held `r` at its break, and `q` before: of the five entries after its birth one is not recoverable,
     // one is for `q`, one excepts `r`, and one comes after the new session's `open`.
     r#"ROOMS
@@ -183,10 +183,36 @@ c1 {"k":"conn","c":3}
 c1 {"k":"out","t":"40{\"pid\":\"P\",\"offset\":\"o1\"}"}
 c1 {"k":"in","t":"40{\"sid\":\"s3\",\"pid\":\"R\"}"}
 "#,
+    // The client's tap has no frame of entry 2, after which the client asks to go on.
+    r#"UNRECORDED
+st {"k":"tap","v":1,"of":"stream"}
+st {"k":"ev","off":"o1","nsp":"/","text":"2[\"m\",\"o1\"]"}
+st {"k":"ev","off":"o2","nsp":"/","text":"2[\"m\",\"o2\"]"}
+st {"k":"ev","off":"o3","nsp":"/","text":"2[\"m\",\"o3\"]"}
+a {"k":"tap","v":1,"of":"node"}
+a {"k":"start","off":null}
+a {"k":"open","pid":"P","sid":"s1","nsp":"/"}
+a {"k":"take","off":"o1"}
+a {"k":"take","off":"o2"}
+a {"k":"break","pid":"P","turn":0}
+b {"k":"tap","v":1,"of":"node"}
+b {"k":"start","off":"o2"}
+b {"k":"back","pid":"P","turn":1}
+b {"k":"take","off":"o3"}
+c1 {"k":"tap","v":1,"of":"client"}
+c1 {"k":"conn","c":1}
+c1 {"k":"in","t":"40{\"sid\":\"s1\",\"pid\":\"P\"}"}
+c1 {"k":"in","t":"42[\"m\",\"o1\"]"}
+c1 {"k":"lost"}
+c1 {"k":"conn","c":2}
+c1 {"k":"out","t":"40{\"pid\":\"P\",\"offset\":\"o2\"}"}
+c1 {"k":"in","t":"40{\"sid\":\"s1\",\"pid\":\"P\"}"}
+c1 {"k":"in","t":"42[\"m\",\"o3\"]"}
+"#,
 ];
 
 /// What is written of each of them.
-static CASES: [&str; 12] = [
+static CASES: [&str; 13] = [
     r#"explain
 @REFUSED
 -> Ok(AllYes)
@@ -405,6 +431,16 @@ sessions with a tail: 0, events in tails: 0
 recoveries asked for: 1, granted: 0, refused: 1
 entries of the stream: 3, recoverable: 3
 lines: 28, *"#,
+    r#"explain
+@UNRECORDED
+-> Ok(SomeNo)
+no P LOST o2 [delivery]
+*
+cause frame-not-recorded (certain, line 21): The client asked to go on after entry 2, of which its
+        tap has no frame: it may have had it.
+do: see whether the client's tap lost records; else look at where the client has the offset from.
+
+sessions: *"#,
 ];
 
 #[test]

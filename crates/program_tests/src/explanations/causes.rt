@@ -59,7 +59,7 @@ static FAULTS: [&str; 13] = [
 ];
 
 /// Causes that hold beside others; none that holds; and the cause of a refused recovery.
-static CASES: [&str; 8] = [
+static CASES: [&str; 7] = [
     // Both nodes are out of order.
     r#"explain
 @NODES
@@ -168,39 +168,6 @@ c1 {"k":"out","t":"40{\"pid\":\"P\"}"}
 c1 {"k":"in","t":"40{\"sid\":\"s2\",\"pid\":\"Q\"}"}
 -> Ok(SomeNo)
 *"causes":[{"id":"no-offset","lines":[13],"of":"refused","of_line":13,"state":"certain","sure":true,*}],"class":*"refuted":["node-not-tapped","missing-break","cleared-after-break","turn-not-stored","recovered-twice"],"tail":*"#,
-    // The client asks to go on after an entry of which its tap has no frame.
-    r#"explain
-st {"k":"tap","v":1,"of":"stream"}
-st {"k":"ev","off":"o1","nsp":"/","text":"2[\"m\",\"o1\"]"}
-st {"k":"ev","off":"o2","nsp":"/","text":"2[\"m\",\"o2\"]"}
-st {"k":"ev","off":"o3","nsp":"/","text":"2[\"m\",\"o3\"]"}
-a {"k":"tap","v":1,"of":"node"}
-a {"k":"start","off":null}
-a {"k":"open","pid":"P","sid":"s1","nsp":"/"}
-a {"k":"take","off":"o1"}
-a {"k":"take","off":"o2"}
-a {"k":"break","pid":"P","turn":0}
-b {"k":"tap","v":1,"of":"node"}
-b {"k":"start","off":"o2"}
-b {"k":"back","pid":"P","turn":1}
-b {"k":"take","off":"o3"}
-c1 {"k":"tap","v":1,"of":"client"}
-c1 {"k":"conn","c":1}
-c1 {"k":"in","t":"40{\"sid\":\"s1\",\"pid\":\"P\"}"}
-c1 {"k":"in","t":"42[\"m\",\"o1\"]"}
-c1 {"k":"lost"}
-c1 {"k":"conn","c":2}
-c1 {"k":"out","t":"40{\"pid\":\"P\",\"offset\":\"o2\"}"}
-c1 {"k":"in","t":"40{\"sid\":\"s1\",\"pid\":\"P\"}"}
-c1 {"k":"in","t":"42[\"m\",\"o3\"]"}
--> Ok(SomeNo)
-no P LOST o2 [delivery]
-*
-cause frame-not-recorded (certain, line 21): The client asked to go on after entry 2, of which its
-        tap has no frame: it may have had it.
-do: see whether the client's tap lost records; else look at where the client has the offset from.
-
-sessions: *"#,
     // A session that is answered yes.
     r#"explain --json --pid P
 @YES
