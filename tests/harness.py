@@ -16,6 +16,9 @@ NOBODY_JUDGED = b"sioaudit: nothing was judged: no session was recorded\n"
 NOTHING_JUDGED = b"sioaudit: a yes says nothing here: no entry of the stream is recoverable\n"
 MOST_LINES = 12
 MOST_COLUMNS = 160
+# The faults that `sioaudit simulate` makes.
+SIMULATED_FAULTS = """drop double hold alter garble lose-attachment lag unknown-offset cut-before-reply no-reply other-sid no-open no-join
+no-break take-twice""".split()
 
 
 @functools.lru_cache(maxsize=None)
