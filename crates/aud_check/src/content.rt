@@ -58,8 +58,9 @@ pub(crate) fn first_altered(stream: &Stream<'_>, frames: &[&Frame<'_>]) -> Optio
     None
 }
 
-/// The part of the frame that isn't that of the entry at its position; none where it is that entry.
-fn part_of(stream: &Stream<'_>, frame: &Frame<'_>) -> Option<Part>
+/// The first part of the frame that isn't that of the entry at its position, which counts from 1; none where the frame is
+/// that entry, byte for byte.
+pub fn part_of(stream: &Stream<'_>, frame: &Frame<'_>) -> Option<Part>
     ensures { MatchOption result (IsEntry stream.now frame.now) (IsPartOf frame.now
         (entry stream.now frame.now.position)) }
 {

@@ -38,7 +38,7 @@ mod window;
 mod words;
 
 pub use certificate::{Accepted, check, check_delivery};
-pub use content::{Altered, Part};
+pub use content::{Altered, Part, part_of};
 pub use difference::Difference;
 pub use finding::{Finding, first_finding};
 pub use refusal::Refusal;

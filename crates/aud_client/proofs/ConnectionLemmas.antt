@@ -5,7 +5,7 @@ use Rattle.std.proofs.lemmas.Grind.{flat_map-append}
 use Rattle.std.proofs.lemmas.Bool.{ne_eqb}
 use Rattle.aud_tap.specs.declared.records.ClientRec.{ClientRec}
 use Rattle.aud_tap.specs.declared.records.ClientRec.TheVariants.{Conn, TextIn, BytesIn, Poll, TextOut, Lost}
-use Rattle.aud_sio.specs.Message.{at}
+use Rattle.aud_sio.specs.Message.{Message, at}
 use Rattle.aud_sio.specs.Wholes.{Answer, wholes_of}
 use Rattle.aud_sio.specs.Assembly.{Waits, wholes_after}
 use Rattle.aud_client.specs.TapPackets.{TapPacket, FromServer, server_packets, numbered_records, messages_at, packets_at, is_bad, is_refused, engine_packets, first_of}
@@ -103,37 +103,46 @@ HasRead-none first reader held packets bad =
       waits = subst Waits (sym held) refl;
     }
 
--- one record more
-pub HasGiven-more : (first : ℕ) (recs : List ClientRec) (rec : ClientRec) (packets after : List (ℕ × TapPacket)) (old new : Reader) → HasGiven first recs packets old
-    → (more : ReadsRecord (first + length recs) rec old new) → after ≡ packets ++ packets_at (at (first + length recs) more.answers) (first + length recs, rec)
+-- one record more, whose messages have these answers
+pub HasGiven-by : (first : ℕ) (recs : List ClientRec) (rec : ClientRec) (packets after : List (ℕ × TapPacket)) (old new : Reader) (answers : List Answer) → HasGiven first recs packets old
+    → ((l : List (ℕ × Message)) → wholes_after old.assembler (messages_at (first + length recs, rec) ++ l) ≡ at (first + length recs) answers ++ wholes_after new.assembler l)
+    → new.bad ≡ bad_or old.bad (first + length recs) (is_bad (at (first + length recs) answers) (first + length recs, rec)) → (Waits old.assembler → Waits new.assembler)
+    → after ≡ packets ++ packets_at (at (first + length recs) answers) (first + length recs, rec)
     → HasGiven first (recs ++ rec ∷ []) after new
-HasGiven-more first recs rec packets after old new before more after_is =
+HasGiven-by first recs rec packets after old new answers before continues bad_is waits after_is =
     let n = first + length recs in
     let all = numbered-append first recs (rec ∷ []) in
     record {
-      answers = before.answers ++ at n more.answers;
-      before = AreBefore-more n (first + length (recs ++ rec ∷ [])) before.answers more.answers (omega (arith, length-append recs (rec ∷ []))) before.before;
+      answers = before.answers ++ at n answers;
+      before = AreBefore-more n (first + length (recs ++ rec ∷ [])) before.answers answers (omega (arith, length-append recs (rec ∷ []))) before.before;
       continues = λ l.
           ap (λ r. wholes_of (flat_map messages_at r ++ l)) all
           ∙ ap (λ m. wholes_of (m ++ l)) (flat_map-append messages_at (numbered_records first recs) ((n, rec) ∷ []) ∙ ap (λ m. flat_map messages_at (numbered_records first recs) ++ m) (append-nil (messages_at (n, rec))))
           ∙ ap wholes_of (append_assoc (flat_map messages_at (numbered_records first recs)) (messages_at (n, rec)) l)
           ∙ before.continues (messages_at (n, rec) ++ l)
-          ∙ ap (λ r. before.answers ++ r) (more.continues l)
-          ∙ sym (append_assoc before.answers (at n more.answers) (wholes_after new.assembler l));
+          ∙ ap (λ r. before.answers ++ r) (continues l)
+          ∙ sym (append_assoc before.answers (at n answers) (wholes_after new.assembler l));
       packets_are =
           after_is
-          ∙ ap (λ r. r ++ packets_at (at n more.answers) (n, rec)) before.packets_are
-          ∙ ap (λ r. r ++ packets_at (at n more.answers) (n, rec)) (sym (packets-other n first before.answers more.answers recs (omega arith)))
-          ∙ ap (λ r. flat_map (packets_at (before.answers ++ at n more.answers)) (numbered_records first recs) ++ r) (packets_at-same (at n more.answers) (before.answers ++ at n more.answers) n rec (sym (received-before n before.answers (at n more.answers) before.before)))
-          ∙ ap (λ r. flat_map (packets_at (before.answers ++ at n more.answers)) (numbered_records first recs) ++ r) (sym (append-nil (packets_at (before.answers ++ at n more.answers) (n, rec))))
-          ∙ sym (ap (flat_map (packets_at (before.answers ++ at n more.answers))) all ∙ flat_map-append (packets_at (before.answers ++ at n more.answers)) (numbered_records first recs) ((n, rec) ∷ []));
+          ∙ ap (λ r. r ++ packets_at (at n answers) (n, rec)) before.packets_are
+          ∙ ap (λ r. r ++ packets_at (at n answers) (n, rec)) (sym (packets-other n first before.answers answers recs (omega arith)))
+          ∙ ap (λ r. flat_map (packets_at (before.answers ++ at n answers)) (numbered_records first recs) ++ r) (packets_at-same (at n answers) (before.answers ++ at n answers) n rec (sym (received-before n before.answers (at n answers) before.before)))
+          ∙ ap (λ r. flat_map (packets_at (before.answers ++ at n answers)) (numbered_records first recs) ++ r) (sym (append-nil (packets_at (before.answers ++ at n answers) (n, rec))))
+          ∙ sym (ap (flat_map (packets_at (before.answers ++ at n answers))) all ∙ flat_map-append (packets_at (before.answers ++ at n answers)) (numbered_records first recs) ((n, rec) ∷ []));
       bad_is =
-          more.bad_is
-          ∙ ap (λ b. bad_or b n (is_bad (at n more.answers) (n, rec))) (before.bad_is ∙ ap (λ r. first_of (map (λ (rec : ℕ × ClientRec). rec.0) r)) (sym (bad-other n first before.answers more.answers recs (omega arith))))
-          ∙ ap (λ b. bad_or (first_bad (is_bad (before.answers ++ at n more.answers)) (numbered_records first recs)) n (is_refused (engine_packets rec) || b)) (sym (refused_at-before n before.answers (at n more.answers) before.before))
-          ∙ sym (ap (first_bad (is_bad (before.answers ++ at n more.answers))) all ∙ first_bad-last (is_bad (before.answers ++ at n more.answers)) (numbered_records first recs) (n, rec));
-      waits = more.waits before.waits;
+          bad_is
+          ∙ ap (λ b. bad_or b n (is_bad (at n answers) (n, rec))) (before.bad_is ∙ ap (λ r. first_of (map (λ (rec : ℕ × ClientRec). rec.0) r)) (sym (bad-other n first before.answers answers recs (omega arith))))
+          ∙ ap (λ b. bad_or (first_bad (is_bad (before.answers ++ at n answers)) (numbered_records first recs)) n (is_refused (engine_packets rec) || b)) (sym (refused_at-before n before.answers (at n answers) before.before))
+          ∙ sym (ap (first_bad (is_bad (before.answers ++ at n answers))) all ∙ first_bad-last (is_bad (before.answers ++ at n answers)) (numbered_records first recs) (n, rec));
+      waits = waits before.waits;
     }
+
+-- one record more
+pub HasGiven-more : (first : ℕ) (recs : List ClientRec) (rec : ClientRec) (packets after : List (ℕ × TapPacket)) (old new : Reader) → HasGiven first recs packets old
+    → (more : ReadsRecord (first + length recs) rec old new) → after ≡ packets ++ packets_at (at (first + length recs) more.answers) (first + length recs, rec)
+    → HasGiven first (recs ++ rec ∷ []) after new
+HasGiven-more first recs rec packets after old new before more after_is =
+    HasGiven-by first recs rec packets after old new more.answers before more.continues more.bad_is more.waits after_is
 
 -- one record more, and all packets are held
 pub HasRead-more : (first : ℕ) (recs : List ClientRec) (rec : ClientRec) (old new : Reader) → HasRead first recs old → ReadsRecord (first + length recs) rec old new → HasRead first (recs ++ rec ∷ []) new

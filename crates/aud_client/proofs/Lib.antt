@@ -1,3 +1,4 @@
+pub mod AheadLemmas
 pub mod Places
 pub mod OnePass
 pub mod Steps

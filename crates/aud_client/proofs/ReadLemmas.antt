@@ -90,14 +90,14 @@ pub Reads-one : (number : ℕ) (p : eio.Packet) (old new : Reader) → Reads num
 Reads-one number p old new a = subst (λ (ms : List Message). Reads number ms old new) (sym (append-nil (messages_of p))) a
 
 -- the answers at a record are its own
-received-at : (number : ℕ) (xs : List Answer) → server_packets number (at number xs) ≡ wholes_in xs
+pub received-at : (number : ℕ) (xs : List Answer) → server_packets number (at number xs) ≡ wholes_in xs
 received-at number [] = refl
 received-at number (Ok whole ∷ xs) =
     ap (λ b. cond b (FromServer whole ∷ server_packets number (at number xs)) (server_packets number (at number xs))) (eq-eqb number number refl)
     ∙ ap (λ ws. FromServer whole ∷ ws) (received-at number xs)
 received-at number (Err fault ∷ xs) = received-at number xs
 
-refused-at : (number : ℕ) (xs : List Answer) → list_any (λ (answer : ℕ × Answer). nat_eq answer.0 number && is_refused answer.1) (at number xs) ≡ list_any is_refused xs
+pub refused-at : (number : ℕ) (xs : List Answer) → list_any (λ (answer : ℕ × Answer). nat_eq answer.0 number && is_refused answer.1) (at number xs) ≡ list_any is_refused xs
 refused-at number [] = refl
 refused-at number (x ∷ xs) =
     ap (λ b. (b && is_refused x) || list_any (λ (answer : ℕ × Answer). nat_eq answer.0 number && is_refused answer.1) (at number xs)) (eq-eqb number number refl)

@@ -6,3 +6,4 @@ pub mod ClientRead
 pub mod ConnectionRead
 pub mod Clients
 pub mod Told
+pub mod Ahead

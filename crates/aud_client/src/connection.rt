@@ -5,9 +5,12 @@ ghost use Rattle.aud_eio.specs.Body.{engine_packets_of};
 ghost use Rattle.aud_sio.specs.Message.{Text, messages_of, at};
 ghost use Rattle.aud_sio.specs.Packet.{packet_of, packet_view};
 ghost use Rattle.aud_client.specs.TapPackets.{is_connection_kind, one_of, client_packet, client_packet_in};
+ghost use Rattle.std.specs.List.{AllZip};
+ghost use Rattle.aud_client.specs.Private.Ahead.{Carries};
 ghost use Rattle.aud_client.specs.Private.ConnectionRead.{HasRead, ReadsRecord, ReadsEngine, Reads, ends_connection, inside, sent_seen, packets_read, bad_or};
 ghost use Rattle.aud_client.specs.Seen.{packet_seen, placed_seen};
 
+use crate::ahead::known_in;
 use aud_eio::{Eio, EioFault, decode_binary, decode_payload, decode_text};
 use aud_node::{KnownEvent, Stream};
 use aud_sio::{Assembler, Packet, PacketKind, Scratch, SioFault, Whole, decode_with};
@@ -59,6 +62,25 @@ impl<'s, 'a> Reader<'s, 'a> {
             assembler: Assembler::new(alloc),
             packets: Vec::new(alloc),
             bad: None,
+        }
+    }
+
+    /// Of each record the event of the stream that it carries as its text alone, where one is known by it.
+    pub fn known_in(&self, recs: &[ClientRec]) -> Result<Vec<Option<KnownEvent<'a>>>, AllocError>
+        ensures { IfOk result (λ known. AllZip Carries recs.now known.items) }
+    {
+        known_in(self.alloc, self.stream, recs)
+    }
+
+    /// The event that is known of a record, if no attachment is awaited: it is then all that the record gives.
+    pub fn at_rest(&self, known: Option<KnownEvent<'a>>) -> Option<KnownEvent<'a>>
+        ensures known { OnSome result (result ≡ known.entry) }
+        ensures rest { OnSome result (self.now.assembler ≡ []) }
+    {
+        if self.assembler.is_at_rest() {
+            known
+        } else {
+            None
         }
     }
 
@@ -120,7 +142,7 @@ impl<'s, 'a> Reader<'s, 'a> {
         }
     }
 
-    /// A text message from the server.
+    /// A text message from the server. Whether it is known was asked before ([`known_in`](Reader::known_in)).
     fn read_text(
         &mut self,
         scratch: &mut Scratch,
@@ -131,7 +153,7 @@ impl<'s, 'a> Reader<'s, 'a> {
             (one_of (engine_packet_of text.now)) self.old self.new) }
     {
         match decode_text(self.alloc, text) {
-            Ok(packet) => self.receive(scratch, number, packet),
+            Ok(packet) => self.feed(scratch, number, packet),
             Err(EioFault::Memory) => Err(AllocError),
             Err(_) => {
                 self.refuse(number);
@@ -201,7 +223,7 @@ impl<'s, 'a> Reader<'s, 'a> {
             return None;
         }
         match packet {
-            Eio::Message(text) => self.stream?.known(text),
+            Eio::Message(text) => known(self.stream?, text),
             _ => None,
         }
     }
@@ -277,6 +299,13 @@ impl<'s, 'a> Reader<'s, 'a> {
             self.bad = Some(number);
         }
     }
+}
+
+/// The event of this text, where one is known by it.
+fn known<'a>(stream: &Stream<'a>, text: &str) -> Option<KnownEvent<'a>>
+    ensures { IfSome result (λ known. known.event.now.text ≡ text.now) }
+{
+    stream.known(text, stream.guess(text))
 }
 
 /// Whether the record ends the connection before it.

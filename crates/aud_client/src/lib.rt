@@ -23,6 +23,7 @@
 //! ```
 #![tactic(auto)]
 
+mod ahead;
 mod asked;
 mod by_session;
 mod client_tap;

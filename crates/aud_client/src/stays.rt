@@ -82,8 +82,8 @@ impl<'a> Stays<'a> {
         Ok(())
     }
 
-    /// The next packet of the connection with this number.
-    fn take(
+    /// The next packet of the connection with this number. Payloads are read with this memory.
+    pub fn take(
         &mut self,
         scratch: &mut Scratch,
         stream: &Stream<'_>,

@@ -1,21 +1,27 @@
 //! What a client's tap tells, as its records come.
-ghost use Rattle.std.specs.Prelude.{◌≡◌, ◌+◌, ◌^◌, ◌<◌, ◌++◌, ◌∷◌, ℕ, List, [], IfOk, OnOk, flat_map, length, map};
+ghost use Rattle.std.specs.Prelude.{◌≡◌, ◌≤◌, ◌+◌, ◌^◌, ◌<◌, ◌++◌, ◌∷◌, ℕ, List, [], IfOk, OnOk, flat_map, length, map};
 ghost use Rattle.std.specs.Option.{option_or};
 ghost use Rattle.aud_tap.specs.declared.records.ClientRec.{ClientRec};
-ghost use Rattle.aud_client.specs.TapPackets.{tap_packets, numbered_records, bad_in, first_of};
+ghost use Rattle.aud_client.specs.TapPackets.{FromServer, tap_packets, numbered_records, bad_in, first_of};
 ghost use Rattle.aud_client.specs.StaySeen.{StaySeen};
 ghost use Rattle.aud_client.specs.StayPlaces.{PlacesSeen, places_in, tap_places};
 ghost use Rattle.aud_client.specs.Received.{stays_of, tap_stays};
 ghost use Rattle.aud_client.specs.Private.ConnectionRead.{inside};
 ghost use Rattle.aud_client.specs.Private.ClientRead.{begun, bad_of, cut_seen};
 ghost use Rattle.aud_client.specs.Private.Told.{HasKept};
+ghost use Rattle.aud_client.specs.Private.Kept.{Keeps};
+ghost use Rattle.aud_client.specs.PlacedStays.{PlacedPacket};
+ghost use Rattle.aud_node.specs.Known.{spelled};
 
-use crate::connection::{Reader, ends_connection};
+use crate::connection::{Placed, Reader, TapPacket, ends_connection};
 use crate::stays::Stays;
-use aud_node::Stream;
+use aud_node::{KnownEvent, Stream};
 use aud_sio::Scratch;
 use aud_tap::ClientRec;
 use std::alloc::{AllocError, Global};
+
+/// The events of so many records are looked up together: few enough that what is fetched for them stays near.
+const AHEAD: usize = 256;
 
 /// What the records so far tell.
 #[derive(Drop)]
@@ -117,14 +123,27 @@ impl<'a> Told<'a> {
             stream,
             c,
             first,
-            recs,
+            inside(recs),
         )?;
         self.bad = self.bad.or(reader.bad);
         Ok(())
     }
 }
 
-/// The connection's records, the first of which has this number: up to the next `conn` or `lost`.
+/// The records before the next `conn` or `lost`.
+fn inside(recs: &[ClientRec]) -> &[ClientRec]
+    ensures value { result.now ≡ inside recs.now }
+    ensures short { length result.now ≤ length recs.now }
+{
+    for (i, rec) in recs.iter().enumerate() {
+        if ends_connection(rec) {
+            return &recs[..i];
+        }
+    }
+    recs
+}
+
+/// All records of the connection, the first of which has this number.
 fn read_records<'a>(
     stays: &mut Stays<'a>,
     reader: &mut Reader<'_, 'a>,
@@ -138,15 +157,59 @@ fn read_records<'a>(
     ensures { (done : List StaySeen) (told : List PlacesSeen)
         → HasKept stream.now c first done told [] reader.old stays.old
         → OnOk result (HasKept stream.now c first done told
-        (inside recs.now) reader.new stays.new) }
+        recs.now reader.new stays.new) }
 {
-    for (i, rec) in recs.iter().enumerate() {
-        if ends_connection(rec) {
-            return Ok(());
-        }
-        read_record(stays, reader, scratch, stream, c, first + i, rec)?;
+    let mut number = first;
+    for some in recs.chunks(AHEAD) {
+        read_some(stays, reader, scratch, stream, c, number, some)?;
+        number += some.len();
     }
     Ok(())
+}
+
+/// The connection's next records, the first of which has this number. The events that they carry are looked up before.
+fn read_some<'a>(
+    stays: &mut Stays<'a>,
+    reader: &mut Reader<'_, 'a>,
+    scratch: &mut Scratch,
+    stream: &Stream<'_>,
+    c: u64,
+    number: usize,
+    some: &'a [ClientRec],
+) -> Result<(), AllocError>
+    requires { number + length some.now < 2 ^ 64 }
+    ensures { (first : ℕ) (done : List StaySeen) (told : List PlacesSeen) (recs : List ClientRec)
+        → number ≡ first + length recs
+        → HasKept stream.now c first done told recs reader.old stays.old
+        → OnOk result (HasKept stream.now c first done told
+        (recs ++ some.now) reader.new stays.new) }
+{
+    let known = reader.known_in(some)?;
+    for (i, rec) in some.iter().enumerate() {
+        match reader.at_rest(known[i]) {
+            Some(event) => take_known(stays, scratch, stream, c, number + i, event)?,
+            None => read_record(stays, reader, scratch, stream, c, number + i, rec)?,
+        }
+    }
+    Ok(())
+}
+
+/// The connection's next record, which has this number and is known to carry the event: this goes into the stays.
+fn take_known<'a>(
+    stays: &mut Stays<'a>,
+    scratch: &mut Scratch,
+    stream: &Stream<'_>,
+    c: u64,
+    number: usize,
+    event: KnownEvent<'a>,
+) -> Result<(), AllocError>
+    ensures { (done : List StaySeen) (told : List PlacesSeen) (packets : List PlacedPacket)
+        → Keeps stream.now c stays.old done told packets
+        → OnOk result (Keeps stream.now c stays.new done told (packets
+        ++ (number, FromServer (spelled event.entry.event.now.text)) ∷ [])) }
+{
+    let packet = TapPacket::Known(event);
+    stays.take(scratch, stream, c, Placed { number, packet })
 }
 
 /// The connection's next record, which has this number. The packets that are whole with it go into the stays.

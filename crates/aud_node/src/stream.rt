@@ -106,27 +106,35 @@ impl<'a> Stream<'a> {
             .unwrap_or(false)
     }
 
+    /// A guess at how many entries stand before the first event of this text; it promises nothing, and is for
+    /// [`known`](Stream::known). A guess reads a few bytes that stand far from others: who has many texts asks for
+    /// the guesses of all before the first of them is used, so that their bytes are fetched side by side.
+    pub fn guess(&self, text: &str) -> Option<usize> {
+        self.hints.get(text)
+    }
+
     /// The first event of this text that a server sends again after a recovery, and that has no attachments; none where
-    /// there is no such event. The text isn't decoded.
-    pub fn known(&self, text: &str) -> Option<KnownEvent<'a>>
+    /// there is no such event. The text isn't decoded. So it is whatever the guess is; where that is right, nothing is
+    /// looked up.
+    pub fn known(&self, text: &str, guess: Option<usize>) -> Option<KnownEvent<'a>>
         ensures first { option_map (λ known. known.before) result ≡ known_entry self.now text.now }
         ensures entry { IfSome result (λ known. slice_get self.now known.before
             ≡ Some (Ev known.event.now)) }
         ensures text { IfSome result (λ known. known.event.now.text ≡ text.now) }
     {
-        let before = self.known_before(text)?;
+        let before = self.known_before(text, guess)?;
         match self.entries.get(before)? {
             StreamRec::Ev(event) => Some(KnownEvent { before, event }),
             StreamRec::Other { .. } => None,
         }
     }
 
-    /// How many entries stand before that event. Mostly it is guessed; else it is found by the offset in which the text
+    /// How many entries stand before that event. Where the guess is wrong, it is found by the offset in which the text
     /// ends, or the whole text is looked up.
-    fn known_before(&self, text: &str) -> Option<usize>
+    fn known_before(&self, text: &str, guess: Option<usize>) -> Option<usize>
         ensures { result ≡ known_entry self.now text.now }
     {
-        if let Some(guessed) = self.guessed(text) {
+        if let Some(guessed) = self.guessed(text, guess) {
             return Some(guessed);
         }
         match self.found_by_offset(text) {
@@ -135,14 +143,14 @@ impl<'a> Stream<'a> {
         }
     }
 
-    /// The same where a guess is right; none where it isn't, or where two entries have the same offset.
-    fn guessed(&self, text: &str) -> Option<usize>
+    /// The same where the guess is right; none where it isn't, or where two entries have the same offset.
+    fn guessed(&self, text: &str, guess: Option<usize>) -> Option<usize>
         ensures { IfSome result (λ before. known_entry self.now text.now ≡ Some before) }
     {
         if !self.offsets.distinct() {
             return None;
         }
-        let before = self.hints.get(text)?;
+        let before = guess?;
         let entry = self.entries.get(before)?;
         if !is_sent_as(entry, self.recoverable(before as u64 + 1), text) {
             return None;
