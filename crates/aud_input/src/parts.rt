@@ -1,5 +1,6 @@
 //! The taps and the certificates of lines that come one after another.
-ghost use Rattle.std.specs.Prelude.{◌≡◌, ◌≢◌, ◌++◌, ◌∷◌, [], List, None, Ok, Err, IfOk, IfErr, OnOk};
+ghost use Rattle.std.specs.Prelude.{◌≡◌, ◌≢◌, ◌++◌, ◌∷◌, [], List, None, Ok, Err, IfOk, IfErr, OnOk, true};
+ghost use Rattle.aud_input.specs.declared.input.Layout.TheVariants.{Bundle};
 ghost use Rattle.aud_reader.specs.declared.line.Line.{Line};
 ghost use Rattle.aud_tap.specs.Names.{AreNamedOnce};
 ghost use Rattle.aud_input.specs.Input.{opens_object, is_certificate, parts_of};
@@ -142,6 +143,41 @@ impl PartsReader {
         }
     }
 
+    /// Whether the lines to come needn't be kept before they are read: there is one thread, no other line waits, and none
+    /// can be a certificate.
+    fn reads_at_once(&self, threads: usize) -> bool
+        ensures bundle { result ≡ true → self.now.layout ≡ Bundle }
+        ensures none { result ≡ true → self.now.waiting ≡ [] }
+    {
+        match self.layout {
+            Layout::Bundle => threads < 2 && self.waiting.len() == 0,
+            Layout::BundleAndCertificates => false,
+        }
+    }
+
+    /// Reads the next lines, up to the first that is refused. They are kept only where one is.
+    fn read_at_once<H: Threads + Sync>(&mut self, rt: &H, lines: &Lines) -> Result<(), ReadFault>
+        requires going { self.old.taps.fault ≡ None }
+        requires bundle { self.old.layout ≡ Bundle }
+        requires none { self.old.waiting ≡ [] }
+        ensures going { OnOk result (self.new.taps.fault ≡ None) }
+        ensures parts { OnOk result ((more : List Line)
+            → parts_to_come self.new more ≡ parts_to_come self.old (lines.now ++ more)) }
+        ensures refused { IfErr result (λ e. e ≢ ReadFault.Memory → (more : List Line)
+            → parts_to_come self.old (lines.now ++ more) ≡ Err e) }
+        ensures waits { result ≢ Err ReadFault.Memory
+            → AreAmong self.new.waiting (self.old.waiting ++ lines.now) }
+        ensures held { IfErr result (λ e. e ≢ ReadFault.Memory → Holds e self.new.waiting) }
+    {
+        match self.taps.lines(rt, 1, lines) {
+            Ok(()) => Ok(()),
+            Err(fault) => {
+                self.waiting.append(lines)?;
+                Err(fault)
+            }
+        }
+    }
+
     /// Reads the next lines, up to the first that is refused, or keeps them until there are enough to be read. They
     /// came with so many bytes of the input.
     pub fn read_lines<H: Threads + Sync>(
@@ -161,6 +197,9 @@ impl PartsReader {
             → AreAmong self.new.waiting (self.old.waiting ++ lines.now) }
         ensures held { IfErr result (λ e. e ≢ ReadFault.Memory → Holds e self.new.waiting) }
     {
+        if self.reads_at_once(threads) {
+            return self.read_at_once(rt, lines);
+        }
         self.keep_lines(lines, size)?;
         if threads < 2 || MAX_LINES <= self.waiting.len() || MAX_BYTES <= self.bytes {
             return self.read_waiting(rt, threads);
