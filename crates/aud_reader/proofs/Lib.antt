@@ -7,6 +7,7 @@ pub mod ShownRecords
 pub mod TapNames
 pub mod ConnectionsLemmas
 pub mod TextsLemmas
+pub mod OffsetsLemmas
 pub mod KeptLemmas
 pub mod LineSteps
 pub mod OwnLines

@@ -19,7 +19,7 @@ use Rattle.aud_reader.specs.Bundle.{max_pids, pids_fit}
 use Rattle.aud_reader.specs.Private.Texts.{HasTexts, HasPids}
 
 -- a text is among others and one more where it is among them or is that one
-any-push : (q text : List ℕ) (texts : List (List ℕ)) → list_any (is_text q) (texts ++ text ∷ []) ≡ (list_any (is_text q) texts || is_text q text)
+pub any-push : (q text : List ℕ) (texts : List (List ℕ)) → list_any (is_text q) (texts ++ text ∷ []) ≡ (list_any (is_text q) texts || is_text q text)
 any-push q text texts = list_any-append (is_text q) texts (text ∷ []) ∙ ap (λ b. list_any (is_text q) texts || b) (or-false (is_text q text))
 
 -- a text that is put in

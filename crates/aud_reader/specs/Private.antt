@@ -4,6 +4,7 @@ pub mod Connected
 pub mod SplitterSteps
 pub mod Changes
 pub mod Texts
+pub mod Offsets
 pub mod Kept
 pub mod NewRecord
 pub mod Packed

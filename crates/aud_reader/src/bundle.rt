@@ -2,6 +2,7 @@
 mod client_log;
 mod counts;
 mod node_log;
+mod offsets;
 mod open_tap;
 mod open_taps;
 mod own_records;

@@ -1,5 +1,5 @@
 use Rattle.aud_reader.proofs.TextsLemmas.{texts-put}
-use Rattle.aud_reader.proofs.bundle.stream_log.add_offset.Goals as goal
+use Rattle.aud_reader.proofs.bundle.offsets.add_offset.Goals as goal
 
 pub returns-clause-kept : goal.returns-clause-kept
 returns-clause-kept c = λ all has.

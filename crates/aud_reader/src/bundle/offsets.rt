@@ -1,0 +1,135 @@
+//! The offsets of the stream's entries, while these are read: each stands there once.
+ghost use Rattle.std.specs.Prelude.{◌≡◌, ◌∷◌, ◌++◌, [], List, ℕ, map, not, IfOk, MatchResult};
+ghost use Rattle.std.specs.List.{list_any};
+ghost use Rattle.aud_base.specs.Steps.{guard};
+ghost use Rattle.aud_tap.specs.Forms.{is_text};
+ghost use Rattle.aud_tap.specs.RecordFields.{offset_of};
+ghost use Rattle.aud_reader.specs.declared.fault.InputCode.TheVariants.{OffsetTwice};
+ghost use Rattle.aud_reader.specs.Steps.{Gives};
+ghost use Rattle.aud_reader.specs.Private.Offsets.{HoldsOffsets, after_byte, number_of, rank};
+ghost use Rattle.aud_reader.specs.Private.Texts.{HasTexts};
+
+use crate::fault::{InputCode, LineFault};
+use aud_tap::{StreamRec, StreamRecs, Text};
+use std::alloc::{AllocError, Global};
+use std::collections::HashSet;
+use std::hash::RandomState;
+
+const OFFSET_TWICE: LineFault = LineFault::Code(InputCode::OffsetTwice);
+
+/// The offset of an entry.
+pub fn offset_of(entry: &StreamRec) -> &Text
+    ensures { result.now ≡ offset_of entry.now }
+{
+    match entry {
+        StreamRec::Ev(event) => &event.off,
+        StreamRec::Other { off } => off,
+    }
+}
+
+/// The two numbers after one byte more.
+fn after_byte(numbers: (u64, u64), byte: u8) -> (u64, u64)
+    ensures { result ≡ after_byte numbers byte }
+{
+    let (high, low) = numbers;
+    if byte == b'-' {
+        return (low, 0);
+    }
+    (
+        high,
+        low.wrapping_mul(10).wrapping_add(u64::from(byte % 16)),
+    )
+}
+
+/// The rank of a text: texts of different ranks are different. A server's offsets ascend by it.
+fn rank(text: &str) -> u128
+    ensures { result ≡ rank text.now }
+{
+    let mut numbers = (0, 0);
+    for byte in text.as_bytes() {
+        numbers = after_byte(numbers, *byte);
+    }
+    number_of(numbers.0, numbers.1)
+}
+
+/// The two numbers as one, of which the first counts more.
+fn number_of(high: u64, low: u64) -> u128
+    ensures { result ≡ number_of (high, low) }
+{
+    u128::from(high) * 18_446_744_073_709_551_616 + u128::from(low)
+}
+
+/// Adds an offset, unless it is there already.
+fn add_offset(offsets: &mut HashSet<Text, RandomState>, off: &Text) -> Result<(), LineFault>
+    ensures new { (all : List (List ℕ)) → HasTexts offsets.old all
+        → Gives result (guard OffsetTwice (not (list_any (is_text off.now) all))) }
+    ensures kept { (all : List (List ℕ)) → HasTexts offsets.old all
+        → MatchResult result (λ _. HasTexts offsets.new (all ++ off.now ∷ []))
+        (λ _. HasTexts offsets.new all) }
+{
+    let is_new = offsets.insert(off.share()?)?;
+    if !is_new {
+        return Err(OFFSET_TWICE);
+    }
+    Ok(())
+}
+
+/// The offsets of these entries. They are hashed with these keys.
+fn offsets_of(
+    alloc: Global,
+    keys: RandomState,
+    entries: &StreamRecs,
+) -> Result<HashSet<Text, RandomState>, AllocError>
+    ensures { IfOk result (λ set. HasTexts set (map offset_of entries.now)) }
+{
+    let mut set = HashSet::with_hasher(alloc, keys);
+    for i in 0..entries.len() {
+        let Some(entry) = entries.get(i) else {
+            return Ok(set);
+        };
+        set.insert(offset_of(entry).share()?)?;
+    }
+    Ok(set)
+}
+
+/// The offsets of the entries so far. While each has a greater rank than those before it, the last rank tells of a
+/// greater one that its offset is new, and nothing else is kept; from the first offset of which that isn't so, all are
+/// in a set.
+#[derive(Drop)]
+pub enum Offsets {
+    /// None has a greater rank than this.
+    Ascending(u128),
+    Any(HashSet<Text, RandomState>),
+}
+
+impl Offsets {
+    /// Adds the offset of the entry that follows these, unless one of them has it. Offsets are hashed with these keys.
+    pub fn add(
+        &mut self,
+        alloc: Global,
+        keys: RandomState,
+        entries: &StreamRecs,
+        off: &Text,
+    ) -> Result<(), LineFault>
+        requires { HoldsOffsets self.old (map offset_of entries.now) }
+        ensures new { Gives result (guard OffsetTwice
+            (not (list_any (is_text off.now) (map offset_of entries.now)))) }
+        ensures kept { MatchResult result
+            (λ _. HoldsOffsets self.new (map offset_of entries.now ++ off.now ∷ []))
+            (λ _. HoldsOffsets self.new (map offset_of entries.now)) }
+    {
+        let last = match self {
+            Offsets::Any(set) => return add_offset(set, off),
+            Offsets::Ascending(last) => *last,
+        };
+        let rank = rank(off.as_str());
+        if rank > last {
+            *self = Offsets::Ascending(rank);
+            return Ok(());
+        }
+        let mut set = offsets_of(alloc, keys, entries)?;
+        let added = add_offset(&mut set, off);
+        *self = Offsets::Any(set);
+        added
+    }
+}
