@@ -1,13 +1,20 @@
 -- What the reader of a bundle keeps, as taps and records are added.
 use Rattle.std.proofs.Common.{◌≡◌, ℕ, zero, suc, ◌<◌, List, [], ◌∷◌, ◌++◌, length, get_or, set, Bool, true, false, cond, Option, Some, None, option_map, Result, Ok, Err, refl, sym, ap, ◌∙◌, arith, append_assoc, append-nil, codes}
 use Rattle.std.specs.HashMap.{HashMap, get_by_text, UpdatesBy}
+use Rattle.std.specs.Prelude.{IsTrue}
+use Rattle.std.specs.List.{list_any}
 use Rattle.std.specs.Str.{bytes_eq}
 use Rattle.std.specs.String.{string_bytes, string_eq}
 use Rattle.std.specs.declared.string.String.{String}
 use Rattle.std.proofs.lemmas.Cmp.{nat_list_eq_equiv}
+use Rattle.std.proofs.lemmas.Slice.Eq.{bytes_eq-Decides}
+use Rattle.std.proofs.Math.ListN.{get_or-map}
 use Rattle.std.proofs.lemmas.Grind.{flat_map-append}
 use Rattle.std.proofs.lemmas.Option.{same_Some}
+use Rattle.std.proofs.lemmas.List.{map-append, map-set, set-get_or}
 use Rattle.std.proofs.lemmas.List.Sums.{sum_by-set}
+use Rattle.std.proofs.lemmas.Map.Keys.{IsDistinct-push}
+use Rattle.std.proofs.lemmas.Map.Made.{AllPairs-from_IsDistinct, IsDistinct-from_AllPairs}
 use Rattle.std.proofs.lemmas.Map.Text.{hash_map_updates_text}
 use Rattle.aud_base.proofs.Lists.{index_is_first}
 use Rattle.aud_base.proofs.SameText.{same_text}
@@ -25,9 +32,12 @@ use Rattle.aud_base.specs.Steps.{◌>>=◌}
 use Rattle.aud_reader.specs.Steps.{Fails}
 use Rattle.aud_tap.specs.Forms.{is_text}
 use Rattle.aud_tap.specs.Names.{place_of}
+use Rattle.aud_tap.specs.TapName.{is_tap_name}
 use Rattle.aud_reader.specs.Bundle.{with_tap_record, tap_named, with_records, kind_of_tap, taps_on, same_kind, pids_in, pids_of, no_records, with_header, with_later, with_kind, with_named}
-use Rattle.aud_reader.specs.Private.Kept.{Counted, KeepsTaps}
+use Rattle.aud_reader.specs.Private.Kept.{Counted, HaveTapNames, KeepsTaps}
 use Rattle.aud_reader.specs.SoFar.{taps_so_far}
+use Rattle.aud_reader.specs.Sound.{names_of}
+use Rattle.aud_reader.specs.TapLaws.{AreDifferent}
 use Rattle.aud_reader.specs.Private.Changes.{Becomes}
 use Rattle.aud_reader.specs.Private.Texts.{HasPids}
 use Rattle.aud_reader.specs.declared.bundle.open_taps.OpenTaps.{OpenTaps}
@@ -88,6 +98,13 @@ named-none name (u ∷ us) place =
     rw (nat_list_eq_equiv.symm name u.name, absent.0) (named-none name us absent.1)
 
 -- ---- one tap in another's place
+
+-- another tap of the same name, in its place, leaves the names
+pub names-set : (ts : List Tap) (i : ℕ) (t t' : Tap) → get_or ts i t ≡ t → t'.name ≡ t.name → names_of (set ts i t') ≡ names_of ts
+names-set ts i t t' at same =
+    let name_of : Tap → List ℕ = λ x. x.name in
+    let named : t.name ≡ get_or (names_of ts) i t.name = sym (get_or-map name_of ts i t ∙ ap name_of at) in
+    map-set name_of ts i t' ∙ ap (set (names_of ts) i) (same ∙ named) ∙ set-get_or (names_of ts) i t.name
 
 -- another tap of the same name, in its place, leaves the places of all names
 pub place_of-set : (name : List ℕ) (ts : List Tap) (i : ℕ) (t t' : Tap) → i < length ts → get_or ts i t ≡ t → t'.name ≡ t.name → place_of (set ts i t') name ≡ place_of ts name
@@ -181,6 +198,8 @@ changed-keeps s s' i t t' (Ok u) taps places counts keeps short at same stays pi
     let ts = taps_so_far s in
     record {
       places = λ name. rw (places, taps) (keeps.places name ∙ sym (place_of-set name ts i t t' short at same));
+      names = rw (taps, names-set ts i t t' at same) keeps.names;
+      forms = rw taps (λ name place found. keeps.forms name place (sym (place_of-set name ts i t t' short at same) ∙ found));
       pids = rw (taps, (around ts i t short at).put t') pids;
       counts = rw (counts, taps) (record {
         streams = keeps.counts.streams ∙ sym (taps_on-set kind.Stream ts i t t' short at stays);
@@ -212,6 +231,32 @@ place_of-push text (u ∷ us) t first =
     go true e other = rw (← same_text t.name text e, other) refl
     go false e other = refl
 
+-- a text that is in none of the places leaves the texts different when it is put last
+pub different-push : (texts : List (List ℕ)) (text : List ℕ) → AreDifferent texts → list_any (is_text text) texts ≡ false → AreDifferent (texts ++ text ∷ [])
+different-push texts text different new =
+    AllPairs-from_IsDistinct bytes_eq-Decides _ (IsDistinct-push nat_list_eq_equiv texts text (IsDistinct-from_AllPairs bytes_eq-Decides texts different) new)
+
+-- where no tap is found by a name, none of the names is that one
+none-of : (name : List ℕ) (ts : List Tap) → tap_named name ts ≡ None → list_any (is_text name) (names_of ts) ≡ false
+none-of name [] e = refl
+none-of name (t ∷ ts) e =
+    elim (is_text name t.name) as (λ b. is_text name t.name ≡ b → cond b (Some t) (tap_named name ts) ≡ None → list_any (is_text name) (names_of (t ∷ ts)) ≡ false) [
+      | true ↦ λ is h. cc
+      | false ↦ λ is h. rw is (none-of name ts h)
+    ] refl e
+
+-- a tap with a new name leaves the names different
+pub names-push : (ts : List Tap) (t : Tap) → tap_named t.name ts ≡ None → AreDifferent (names_of ts) → AreDifferent (names_of (ts ++ t ∷ []))
+names-push ts t new different = rw (map-append (λ (x : Tap). x.name) ts (t ∷ [])) (different-push (names_of ts) t.name different (none-of t.name ts new))
+
+-- and a tap's name leaves all of them such
+forms-push : (ts : List Tap) (t : Tap) → IsTrue (is_tap_name t.name) → place_of ts t.name ≡ None → HaveTapNames ts → HaveTapNames (ts ++ t ∷ [])
+forms-push ts t form first had = λ text place found.
+    elim (bytes_eq t.name text) as (λ b. bytes_eq t.name text ≡ b → cond b (Some (length ts)) (place_of ts text) ≡ Some place → IsTrue (is_tap_name text)) [
+      | true ↦ λ is h. rw (← same_text t.name text is) form
+      | false ↦ λ is h. had text place h
+    ] refl (sym (place_of-push text ts t first) ∙ found)
+
 -- the map of places, with the new name put in, is that of the taps with the new one
 pub places-put : {Y S : Type 0} (m n : HashMap (String Y) ℕ S) (ts : List Tap) (t : Tap) (key : String Y) (size : ℕ) → string_bytes key ≡ t.name → size ≡ length ts
     → UpdatesBy string_eq (string_eq key) m n (Some size) → ((text : List ℕ) → get_by_text m text ≡ place_of ts text) → place_of ts t.name ≡ None
@@ -232,13 +277,16 @@ pids-empty kind.Stream = refl
 pids-empty kind.Node = refl
 pids-empty kind.Client = refl
 
--- after a header the reader's places, pids and counts are those of the taps
-pub begin-keeps : (s s' : OpenTaps) (name : List ℕ) (of : TapKind) (version : Version) → KeepsTaps s → s'.pids ≡ s.pids → taps_so_far s' ≡ taps_so_far s ++ record { name = name; version = version; records = no_records of } ∷ []
+-- after a header the reader's places, names, pids and counts are those of the taps
+pub begin-keeps : (s s' : OpenTaps) (name : List ℕ) (of : TapKind) (version : Version) → IsTrue (is_tap_name name) → place_of (taps_so_far s) name ≡ None → KeepsTaps s → s'.pids ≡ s.pids → taps_so_far s' ≡ taps_so_far s ++ record { name = name; version = version; records = no_records of } ∷ []
     → ((text : List ℕ) → get_by_text s'.places text ≡ place_of (taps_so_far s') text) → Counted s'.counts (taps_so_far s ++ record { name = name; version = version; records = no_records of } ∷ []) → KeepsTaps s'
-begin-keeps s s' name of version keeps same taps places counts =
+begin-keeps s s' name of version form first keeps same taps places counts =
+    let t : Tap = record { name = name; version = version; records = no_records of } in
     record {
       places = places;
-      pids = rw (taps, flat_map-append (λ (t : Tap). pids_in t.records) (taps_so_far s) (record { name = name; version = version; records = no_records of } ∷ []), pids-empty of, append-nil, same) keeps.pids;
+      names = rw taps (names-push (taps_so_far s) t (named-none name (taps_so_far s) first) keeps.names);
+      forms = rw taps (forms-push (taps_so_far s) t form first keeps.forms);
+      pids = rw (taps, flat_map-append (λ (t : Tap). pids_in t.records) (taps_so_far s) (t ∷ []), pids-empty of, append-nil, same) keeps.pids;
       counts = rw taps counts;
     }
 

@@ -10,6 +10,7 @@ pub mod TextsLemmas
 pub mod OffsetsLemmas
 pub mod KeptLemmas
 pub mod LineSteps
+pub mod KnownLines
 pub mod OwnLines
 pub mod TapLaws
 pub mod NewRecords

@@ -29,26 +29,8 @@ use Rattle.aud_base.specs.Steps.{guard}
 use Rattle.aud_reader.specs.Bundle.{max_entries, with_entry, with_tap_record, tap_named, kind_of_tap, same_kind, taps_on, no_records, another_tap, with_line}
 use Rattle.aud_reader.specs.TapLaws.{AreDifferent, offsets_in}
 use Rattle.aud_reader.specs.Sound.{names_of, AreSoundTaps}
-use Rattle.aud_reader.proofs.KeptLemmas.{replaced, taps_on-set}
+use Rattle.aud_reader.proofs.KeptLemmas.{replaced, taps_on-set, different-push, names-push, names-set}
 use Rattle.aud_reader.proofs.LineSteps.{guarded, put_entry, one_more, Begins, Adds, line_step}
-
--- ---- different texts
-
--- a text that is in none of the places leaves the texts different when it is put last
-different-push : (texts : List (List ℕ)) (text : List ℕ) → AreDifferent texts → list_any (is_text text) texts ≡ false → AreDifferent (texts ++ text ∷ [])
-different-push texts text different new =
-    AllPairs-from_IsDistinct bytes_eq-Decides _ (IsDistinct-push nat_list_eq_equiv texts text (IsDistinct-from_AllPairs bytes_eq-Decides texts different) new)
-
--- ---- the names
-
--- where no tap is found by a name, none of the names is that one
-none-of : (name : List ℕ) (ts : List Tap) → tap_named name ts ≡ None → list_any (is_text name) (names_of ts) ≡ false
-none-of name [] e = refl
-none-of name (t ∷ ts) e =
-    elim (is_text name t.name) as (λ b. is_text name t.name ≡ b → cond b (Some t) (tap_named name ts) ≡ None → list_any (is_text name) (names_of (t ∷ ts)) ≡ false) [
-      | true ↦ λ is h. cc
-      | false ↦ λ is h. rw is (none-of name ts h)
-    ] refl e
 
 -- ---- the streams
 
@@ -95,7 +77,7 @@ sound-begins : (ts more : List Tap) (line : List ℕ) → AreSoundTaps ts → Be
 sound-begins ts more line sound b =
     let t : Tap = record { name = b.name; version = b.version; records = no_records b.of } in
     rw b.is (record {
-      names = rw (map-append (λ (x : Tap). x.name) ts (t ∷ [])) (different-push (names_of ts) b.name sound.names (none-of b.name ts b.new));
+      names = names-push ts t b.new sound.names;
       stream = streams-new b.of b.version b.name ts sound.stream b.room;
       offsets = All-push (λ (x : Tap). AreDifferent (offsets_in x.records)) ts t sound.offsets (offsets-none b.of);
     })
@@ -104,10 +86,8 @@ sound-begins ts more line sound b =
 sound-adds : (ts more : List Tap) (line : List ℕ) → AreSoundTaps ts → Adds ts line more → AreSoundTaps more
 sound-adds ts more line sound a =
     let (i, within, at, put) = replaced a.name a.records ts a.found a.is_found in
-    let name_of : Tap → List ℕ = λ t. t.name in
-    let named : (a.found).name ≡ get_or (names_of ts) i (a.found).name = sym (get_or-map name_of ts i a.found ∙ ap name_of at) in
     rw (a.is, put) (record {
-      names = rw (map-set name_of ts i (record a.found { records = a.records }), ap (set (names_of ts) i) named ∙ set-get_or (names_of ts) i (a.found).name) sound.names;
+      names = rw (names-set ts i a.found (record a.found { records = a.records }) at refl) sound.names;
       stream = rw (taps_on-set tap.Stream ts i a.found (record a.found { records = a.records }) within at a.grown.same) sound.stream;
       offsets = All-set (λ (t : Tap). AreDifferent (offsets_in t.records)) ts i (record a.found { records = a.records })
           (offsets-more (a.found).version _ (a.found).records a.records a.kind a.d a.added (rw at at (sound.offsets i a.found within))) sound.offsets;

@@ -6,6 +6,7 @@ pub mod Changes
 pub mod Texts
 pub mod Offsets
 pub mod Kept
+pub mod KnownLine
 pub mod NewRecord
 pub mod Packed
 pub mod OwnRecords

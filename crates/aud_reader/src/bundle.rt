@@ -1,6 +1,7 @@
 //! The taps of the lines.
 mod client_log;
 mod counts;
+mod name_hints;
 mod node_log;
 mod offsets;
 mod open_tap;

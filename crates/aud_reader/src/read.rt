@@ -6,6 +6,6 @@ pub mod line;
 pub mod node;
 pub mod record;
 pub mod stream;
-mod tap_name;
+pub mod tap_name;
 
 pub use line::parse_line;

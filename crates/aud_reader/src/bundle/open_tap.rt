@@ -3,6 +3,7 @@ ghost use Rattle.std.specs.Prelude.{◌≡◌, ◌++◌, List, ℕ, IfOk, OnOk};
 ghost use Rattle.std.specs.List.{filter_map};
 ghost use Rattle.aud_json.specs.View.{view};
 ghost use Rattle.aud_reader.specs.Private.Changes.{Becomes};
+ghost use Rattle.aud_tap.specs.Forms.{is_text};
 ghost use Rattle.aud_tap.specs.RecordFields.{pid_of};
 ghost use Rattle.aud_reader.specs.Bundle.{no_records, pids_in, with_node_record, with_tap_record};
 ghost use Rattle.aud_reader.specs.Private.NewRecord.{with_new_record};
@@ -137,6 +138,13 @@ impl OpenTap {
             version,
             log: OpenLog::new(alloc, keys, of),
         }
+    }
+
+    /// Whether these bytes are the tap's name.
+    pub fn is_named(&self, name: &[u8]) -> bool
+        ensures { result ≡ is_text self.now.name name.now }
+    {
+        self.name.as_str().as_bytes() == name
     }
 
     /// Adds the record of a line, of which the texts are shared with the pool. The pids are those of all node records.

@@ -1,10 +1,12 @@
 //! What lines say by themselves, read in many threads.
-ghost use Rattle.std.specs.Prelude.{◌≡◌, IfOk, MatchResult};
+ghost use Rattle.std.specs.Prelude.{◌≡◌, ℕ, List, IfOk, MatchResult};
 ghost use Rattle.std.specs.List.{AllZip, flat_map};
 ghost use Rattle.aud_json.specs.View.{view};
 ghost use Rattle.aud_reader.specs.Record.{line_record, value_record};
 ghost use Rattle.aud_reader.specs.Steps.{Fails};
+ghost use Rattle.aud_tap.specs.declared.taps.Tap.{Tap};
 ghost use Rattle.aud_reader.specs.Private.Kept.{KeepsTaps};
+ghost use Rattle.aud_reader.specs.Private.KnownLine.{IsOfTapAt};
 ghost use Rattle.aud_reader.specs.Private.OwnRecords.{AreOfLines, IsOfLine, IsOwnOf, with_name};
 ghost use Rattle.aud_reader.specs.SoFar.{taps_so_far};
 
@@ -12,7 +14,7 @@ use super::open_taps::OpenTaps;
 use super::packed::PackedRec;
 use crate::fault::LineFault;
 use crate::line::LentLine;
-use crate::read::line::opened_line;
+use crate::read::line::{json, opened_line};
 use crate::read::record::value_record;
 use aud_base::{TextPool, make_room, try_map};
 use aud_json::{Fields, Scratch};
@@ -62,6 +64,22 @@ fn placed_record(
     }
 }
 
+/// The record of a line of the tap at a place, from what stands after the name. Its texts are shared with the pool.
+fn known_record(
+    alloc: Global,
+    pool: &mut TextPool,
+    scratch: &mut Scratch,
+    place: usize,
+    text: &[u8],
+) -> Result<OwnRecord, LineFault>
+    ensures { (taps : List Tap) (line : List ℕ) → IsOfTapAt taps line place text.now
+        → MatchResult result (IsOwnOf taps (line_record line)) (λ e. Fails e (line_record line)) }
+{
+    let d = json(alloc, scratch, text)?;
+    let rec = PackedRec::new(alloc, value_record(alloc, pool, &d)?)?;
+    Ok(OwnRecord::Placed { place, rec })
+}
+
 /// The record of a line that is not refused for what it says by itself. Its texts are shared with the pool.
 #[tactic(auto, unfolding(crate::specs::Record::line_record))]
 fn opened_record(
@@ -76,6 +94,9 @@ fn opened_record(
         (IsOwnOf (taps_so_far taps.now) (line_record line.now))
         (λ e. Fails e (line_record line.now)) }
 {
+    if let Some((place, text)) = taps.known_line(line) {
+        return known_record(alloc, pool, scratch, place, text);
+    }
     let (name, d) = opened_line(alloc, scratch, line)?;
     placed_record(alloc, taps, pool, name, &d)
 }

@@ -26,7 +26,7 @@ const NO_TAP_NAME: LineFault = LineFault::Code(InputCode::NoTapName);
 const NOT_JSON: LineFault = LineFault::Code(InputCode::NotJson);
 
 /// The fields of JSON text, borrowed from it and from the scratch.
-fn json<'a>(
+pub fn json<'a>(
     alloc: Global,
     scratch: &'a mut Scratch,
     bytes: &'a [u8],

@@ -20,7 +20,7 @@ pub returns-clause-keeps : goal.returns-clause-keeps
 returns-clause-keeps c =
     let counted = c.in_ok-add.ensures (taps_so_far c.args.self.now) c.requires.keeps.counts in
     let others = c.push.ensures.others in
-    begin-keeps c.args.self.now c.push.new.self c.args.name.now c.in_ok-of.of c.in_ok-of.version c.requires.keeps (ap (λ (s : OpenTaps). s.pids) others) c.in_ok-push.ensures.taps (c.in_ok-push.ensures.places c.requires.keeps.places c.requires.first)
+    begin-keeps c.args.self.now c.push.new.self c.args.name.now c.in_ok-of.of c.in_ok-of.version c.requires.name c.requires.first c.requires.keeps (ap (λ (s : OpenTaps). s.pids) others) c.in_ok-push.ensures.taps (c.in_ok-push.ensures.places c.requires.keeps.places c.requires.first)
     (rw others (counted.1 c.args.name.now c.in_ok-of.version))
 
 pub returns-in_err-add-clause-taps : goal.returns-in_err-add-clause-taps

@@ -1,0 +1,123 @@
+//! Guesses which tap a line is of, by the bytes of its name.
+use std::alloc::{AllocError, Global};
+use std::mem::replace;
+
+/// How many slots there are at first, a power of two.
+const LEAST: usize = 64;
+
+/// How many slots a name is looked for in, from its own on.
+const PROBES: usize = 4;
+
+/// A name's hash, and the place of its tap, from 1 on; 0 in a slot without a name.
+#[derive(Clone, Copy, Drop)]
+struct Hint {
+    hash: u32,
+    noted: u32,
+}
+
+const NO_HINT: Hint = Hint { hash: 0, noted: 0 };
+
+impl Hint {
+    fn place(self) -> Option<usize> {
+        (self.noted as usize).checked_sub(1)
+    }
+}
+
+/// Where the taps may stand, by their names. It promises nothing: whoever asks compares the whole name. So a name that
+/// is there is found by a few multiplications over its bytes.
+#[derive(Drop)]
+pub struct NameHints {
+    alloc: Global,
+    /// Their number is a power of two, and at least twice that of the names.
+    slots: Vec<Hint>,
+    /// How many names were noted.
+    count: usize,
+}
+
+impl NameHints {
+    /// Those of no names.
+    pub fn new(alloc: Global) -> NameHints {
+        NameHints {
+            alloc,
+            slots: Vec::new(alloc),
+            count: 0,
+        }
+    }
+
+    /// The tap of this name stands at this place.
+    pub fn note(&mut self, name: &[u8], place: usize) -> Result<(), AllocError> {
+        if self.slots.len() / 2 <= self.count {
+            self.grow()?;
+        }
+        self.count = self.count.saturating_add(1);
+        if let Ok(noted) = u32::try_from(place.saturating_add(1)) {
+            let hash = hash_of(name);
+            self.put(Hint { hash, noted });
+        }
+        Ok(())
+    }
+
+    /// A place at which the tap of this name may stand.
+    pub fn get(&self, name: &[u8]) -> Option<usize> {
+        let hash = hash_of(name);
+        for probe in 0..PROBES {
+            let hint = *self.slots.get(slot_of(hash, probe, self.slots.len()))?;
+            if hint.hash == hash || hint.noted == 0 {
+                return hint.place();
+            }
+        }
+        None
+    }
+
+    /// Puts the hint into the first free slot from its own on. It is left out where there is none.
+    fn put(&mut self, hint: Hint) {
+        for probe in 0..PROBES {
+            let slot = slot_of(hint.hash, probe, self.slots.len());
+            if let Some(kept) = self.slots.get_mut(slot) {
+                if kept.noted == 0 {
+                    *kept = hint;
+                    return;
+                }
+            }
+        }
+    }
+
+    /// Makes twice as many slots, and puts the hints into theirs.
+    fn grow(&mut self) -> Result<(), AllocError> {
+        let size = self.slots.len().saturating_mul(2).max(LEAST);
+        let slots = Vec::from_elem(self.alloc, NO_HINT, size)?;
+        for hint in replace(&mut self.slots, slots) {
+            if hint.noted > 0 {
+                self.put(hint);
+            }
+        }
+        Ok(())
+    }
+}
+
+/// The slot in which a name is looked for at this try.
+fn slot_of(hash: u32, probe: usize, slots: usize) -> usize {
+    (hash as usize).wrapping_add(probe) & slots.wrapping_sub(1)
+}
+
+/// The bytes of a name, mixed.
+fn hash_of(name: &[u8]) -> u32 {
+    let mut mixed: u64 = 0;
+    for part in name.chunks(8) {
+        let word = mixed ^ word_of(part);
+        mixed = (word ^ (word >> 32)).wrapping_mul(0x9e37_79b9_7f4a_7c15);
+    }
+    (mixed >> 32) as u32
+}
+
+/// At most eight bytes, as a number.
+fn word_of(bytes: &[u8]) -> u64 {
+    if let Some(eight) = bytes.first_chunk::<8>() {
+        return u64::from_le_bytes(*eight);
+    }
+    let mut word: u64 = 0;
+    for byte in bytes {
+        word = (word << 8) | u64::from(*byte);
+    }
+    word
+}
