@@ -6,7 +6,7 @@ use std::mem::replace;
 const LEAST: usize = 64;
 
 /// How many slots a name is looked for in, from its own on.
-const PROBES: usize = 4;
+const PROBES: usize = 8;
 
 /// A name's hash, and the place of its tap, from 1 on; 0 in a slot without a name.
 #[derive(Clone, Copy, Drop)]
@@ -100,24 +100,34 @@ fn slot_of(hash: u32, probe: usize, slots: usize) -> usize {
     (hash as usize).wrapping_add(probe) & slots.wrapping_sub(1)
 }
 
-/// The bytes of a name, mixed.
+/// The bytes of a name, mixed. A longer one than any that a tap has doesn't count as a whole.
 fn hash_of(name: &[u8]) -> u32 {
-    let mut mixed: u64 = 0;
-    for part in name.chunks(8) {
-        let word = mixed ^ word_of(part);
-        mixed = (word ^ (word >> 32)).wrapping_mul(0x9e37_79b9_7f4a_7c15);
+    let mut mixed = mixed_ends(name);
+    if name.len() > 16 {
+        mixed ^= mixed_ends(&name[8..name.len() - 8]);
     }
     (mixed >> 32) as u32
 }
 
-/// At most eight bytes, as a number.
-fn word_of(bytes: &[u8]) -> u64 {
-    if let Some(eight) = bytes.first_chunk::<8>() {
-        return u64::from_le_bytes(*eight);
+/// The first and the last eight bytes, mixed: each counts for the upper half of the number.
+fn mixed_ends(bytes: &[u8]) -> u64 {
+    let (first, last) = ends(bytes);
+    let word = first.rotate_left(23).wrapping_add(last);
+    (word ^ (word >> 32)).wrapping_mul(0x9e37_79b9_7f4a_7c15)
+}
+
+/// The first and the last eight bytes as numbers, or those of fewer bytes.
+fn ends(bytes: &[u8]) -> (u64, u64) {
+    if let (Some(first), Some(last)) = (bytes.first_chunk::<8>(), bytes.last_chunk::<8>()) {
+        return (u64::from_le_bytes(*first), u64::from_le_bytes(*last));
+    }
+    if let (Some(first), Some(last)) = (bytes.first_chunk::<4>(), bytes.last_chunk::<4>()) {
+        let (first, last) = (u32::from_le_bytes(*first), u32::from_le_bytes(*last));
+        return (u64::from(first), u64::from(last));
     }
     let mut word: u64 = 0;
     for byte in bytes {
         word = (word << 8) | u64::from(*byte);
     }
-    word
+    (0, word)
 }
