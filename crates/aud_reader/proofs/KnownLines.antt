@@ -1,7 +1,6 @@
 -- Lines of taps that are there.
-use Rattle.std.proofs.Common.{◌≡◌, ℕ, List, Some, Result, Ok, Err, true, refl, sym, ap, ◌∙◌}
+use Rattle.std.proofs.Common.{◌≡◌, ℕ, List, Result, Ok, ap, ◌∙◌}
 use Rattle.serde_json.specs.Data.{Data}
-use Rattle.aud_json.specs.Shown.{shown}
 use Rattle.aud_base.specs.Steps.{◌>>=◌}
 use Rattle.aud_reader.specs.declared.fault.InputCode.{InputCode}
 use Rattle.aud_reader.specs.declared.fault.LineFault.{LineFault}

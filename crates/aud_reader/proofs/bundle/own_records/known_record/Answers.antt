@@ -1,4 +1,4 @@
-use Rattle.std.proofs.Common.{Ok, Err, ◌≡◌, sym, ◌∙◌, refl}
+use Rattle.std.proofs.Common.{Ok, Err, refl}
 use Rattle.std.proofs.lemmas.Result.{err_from_is_err_and}
 use Rattle.aud_json.specs.View.{view}
 use Rattle.aud_reader.specs.declared.bundle.own_records.OwnRecord.TheVariants.{Placed}
