@@ -7,7 +7,7 @@ ghost use Rattle.aud_input.specs.Private.Kept.{KeepsPlaces, place_in, so_far};
 
 use crate::name::name_of;
 use crate::tap_lines::{RecordLines, TapLines};
-use aud_reader::LentLine;
+use aud_reader::{LentLine, NameHints};
 use std::alloc::{AllocError, Global};
 use std::collections::HashMap;
 use std::hash::RandomState;
@@ -22,9 +22,7 @@ pub struct LineIndex {
     alloc: Global,
     taps: Vec<TapLines>,
     places: HashMap<String, usize, RandomState>,
-    /// The place of the tap of the last line that was noted. Where taps stand one after another it is mostly that of the
-    /// next one too.
-    last: usize,
+    hints: NameHints,
     lines: u64,
 }
 
@@ -38,7 +36,7 @@ impl LineIndex {
             alloc,
             taps: Vec::new(alloc),
             places: HashMap::with_hasher(alloc, keys),
-            last: 0,
+            hints: NameHints::new(alloc),
             lines: 0,
         }
     }
@@ -61,19 +59,20 @@ impl LineIndex {
         let key = String::from_str(self.alloc, name)?;
         let place = self.taps.len();
         self.places.insert(key, place)?;
+        self.hints.note(name.as_bytes(), place)?;
         let tap = TapLines::new(self.alloc, name, number)?;
         self.taps.push(tap)?;
-        self.last = place;
         Ok(())
     }
 
-    /// The place of the tap of this name.
+    /// The place of the tap of this name: where a guess says, or else by its hash.
     fn place_of(&self, name: &str) -> Option<usize>
         requires { KeepsPlaces self.now }
         ensures { result ≡ place_in self.now.taps.items name.now }
     {
-        match self.taps.get(self.last) {
-            Some(tap) if tap.is_named(name) => Some(self.last),
+        let guess = self.hints.get(name.as_bytes()).unwrap_or(0);
+        match self.taps.get(guess) {
+            Some(tap) if tap.is_named(name) => Some(guess),
             _ => self.places.get(name).copied(),
         }
     }
@@ -86,10 +85,7 @@ impl LineIndex {
         ensures keeps { OnOk result (KeepsPlaces self.new) }
     {
         match self.place_of(name) {
-            Some(place) => {
-                self.taps[place].push(number)?;
-                self.last = place;
-            }
+            Some(place) => self.taps[place].push(number)?,
             None => self.open(name, number)?,
         }
         Ok(())

@@ -28,6 +28,7 @@ use crate::lines::Lines;
 use aud_base::TextPool;
 use aud_json::Scratch;
 use aud_tap::Taps;
+pub use name_hints::NameHints;
 use open_taps::OpenTaps;
 use own_records::{OwnRecord, own_records_of, parts_of};
 use packed::PackedRec;

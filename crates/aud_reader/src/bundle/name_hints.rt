@@ -44,7 +44,7 @@ impl NameHints {
         }
     }
 
-    /// The tap of this name stands at this place.
+    /// The tap of this name stands at this place, which counts from 0. It is left out where there is no slot for it.
     pub fn note(&mut self, name: &[u8], place: usize) -> Result<(), AllocError> {
         if self.slots.len() / 2 <= self.count {
             self.grow()?;
@@ -57,7 +57,7 @@ impl NameHints {
         Ok(())
     }
 
-    /// A place at which the tap of this name may stand.
+    /// A place at which the tap of this name may stand; any place, or none, of a name that was not noted.
     pub fn get(&self, name: &[u8]) -> Option<usize> {
         let hash = hash_of(name);
         for probe in 0..PROBES {

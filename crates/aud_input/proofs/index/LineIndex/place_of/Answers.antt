@@ -5,8 +5,8 @@ use Rattle.aud_input.proofs.index.LineIndex.place_of.Goals as goal
 
 pub returns-in-Some : goal.returns-in-Some
 returns-in-Some c =
-    let last = c.args.self.now.last in
-    let there = got c.deref.result.now last (Some c.in-Some.tap) c.in-Some.ensures.lookup.3 in
-    let at : slice_get c.args.self.now.taps.items last ≡ Some c.in-Some.tap.now = ap (λ ts. slice_get ts last) (sym c.deref.ensures.value) ∙ sym there in
+    let guess = c.unwrap_or-guess.result in
+    let there = got c.deref.result.now guess (Some c.in-Some.tap) c.in-Some.ensures.lookup.3 in
+    let at : slice_get c.args.self.now.taps.items guess ≡ Some c.in-Some.tap.now = ap (λ ts. slice_get ts guess) (sym c.deref.ensures.value) ∙ sym there in
     let is : bytes_eq c.in-Some.tap.now.name c.args.name.now ≡ true = search rules in
-    sym (place-at c.args.self.now.taps.items c.args.name.now last c.in-Some.tap.now c.requires.once at is)
+    sym (place-at c.args.self.now.taps.items c.args.name.now guess c.in-Some.tap.now c.requires.once at is)

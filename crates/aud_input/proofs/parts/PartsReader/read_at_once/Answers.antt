@@ -1,4 +1,4 @@
-use Rattle.std.proofs.Common.{◌≡◌, ◌++◌, [], None, sym, ap, ◌∙◌, subst}
+use Rattle.std.proofs.Common.{◌≡◌, ◌++◌, None, sym, ap, ◌∙◌, subst}
 use Rattle.aud_reader.proofs.LinesLemmas.{some_of}
 use Rattle.aud_input.specs.Reader.{Holds, PartsSoFar}
 use Rattle.aud_input.proofs.InputLemmas.{read-at_once, refused-at_once}
