@@ -1,6 +1,8 @@
 //! The names of taps, by themselves and before a line's first blank, and the pids and sids of sessions.
 use aud_input::{first_bytes, name_of};
+use aud_reader::NameHints;
 use aud_tap::{is_session_id, is_tap_name};
+use std::test::Fail;
 
 static TAP_NAMES: [(&str, bool); 15] = [
     // 1 to 32 bytes
@@ -49,6 +51,26 @@ fn names_of_lines(rt: HostRuntime) {
     }
     assert!(rt; first_bytes(2, b"c1 {}") == b"c1".as_slice());
     assert!(rt; first_bytes(9, b"c1 {}") == b"c1 {}".as_slice());
+}
+
+static GUESSED: [&str; 5] = [
+    "c",
+    "c1",
+    "client_1",
+    "client_12",
+    "a23456789a123456789b123456789c12",
+];
+
+#[test]
+fn guessed_names(rt: HostRuntime) -> Result<(), Fail> {
+    let mut hints = NameHints::new(rt.alloc());
+    for (place, name) in GUESSED.iter().enumerate() {
+        hints.note(name.as_bytes(), place)?;
+    }
+    for (place, name) in GUESSED.iter().enumerate() {
+        assert!(rt; hints.get(name.as_bytes()) == Some(place), "{name}");
+    }
+    Ok(())
 }
 
 static SESSION_IDS: [(&str, bool); 11] = [

@@ -6,6 +6,7 @@
 //! | question | what it asks for |
 //! |---|---|
 //! | `entry 1-0` | where the entry with this offset stands in the stream |
+//! | `known 2["hi"]` | how many entries stand before the one that is known by this text, by its guess and by a wrong one |
 //! | `addressees / r` | the entries of the namespace that name the room, and those for all of it |
 //! | `name P` | the place of the tap of this name, and those of the nodes and clients that name the session |
 //! | `named` | the sessions that nodes name |
@@ -21,7 +22,7 @@
 //! | `packets c1` | the packets of the client's tap, connection by connection |
 //! | `stays c1` | a line for each stay of the client's tap, then whether it has an orphan, and its first bad record |
 //! | `places c1` | a line for each stay: the records of its last packet, its ask, its reply and its frames |
-//! | `frames c1` | a line for each frame of the client's tap |
+//! | `frames c1` | a line for each frame of the client's tap, and what of it isn't its entry |
 //! | `naming c1 P` | of each stay whether it names the session, and is recovered; the connections of those that name it |
 //! | `sessions` | the sessions |
 //! | `made P` | the certificate of the session, or the word of its fault |
@@ -124,6 +125,7 @@ fn tell(recording: &Recording<'_>, alloc: Global, parts: &[&str], question: &str
     let (word, of) = cut(question);
     match word {
         "entry" => stream::tell_entry(recording.logs().stream(), of, out),
+        "known" => stream::tell_known(recording.logs().stream(), of, out),
         "addressees" => stream::tell_addressees(recording.logs().stream(), of, out),
         "name" => node_logs::tell_name(recording, of, out),
         "named" => node_logs::tell_named(recording.logs(), out),

@@ -1,7 +1,9 @@
 //! What clients' taps tell, as texts.
 use crate::judgement::asked::cut;
 use crate::judgement::told::Told;
+use aud_check::part_of;
 use aud_client::{Frame, IndexedTranscript, Recording, Reply, Stay, StayPlaces, Transcript};
+use aud_node::Stream;
 use aud_tap::Text;
 use std::alloc::Global;
 
@@ -14,7 +16,7 @@ pub fn tell_client(recording: &Recording<'_>, alloc: Global, word: &str, of: &st
     match word {
         "stays" => tell_transcript(client.transcript(), out),
         "places" => tell_places(&client.transcript().places, out),
-        "frames" => tell_frames(&client.transcript().stays, out),
+        "frames" => tell_frames(recording.logs().stream(), &client.transcript().stays, out),
         "naming" => tell_naming(client, alloc, pid, out),
         _ => out.text("no question"),
     }
@@ -96,16 +98,17 @@ fn tell_places(stays: &[StayPlaces], out: &mut Told) {
 }
 
 /// A line for each frame of the stays.
-fn tell_frames(stays: &[Stay<'_>], out: &mut Told) {
+fn tell_frames(stream: &Stream<'_>, stays: &[Stay<'_>], out: &mut Told) {
     for stay in stays {
         for frame in stay.frames.iter() {
-            tell_frame(frame, out);
+            tell_frame(stream, frame, out);
         }
     }
 }
 
-/// The position of the frame, its text, and how many bytes each attachment has, and which is the first.
-fn tell_frame(frame: &Frame<'_>, out: &mut Told) {
+/// The position of the frame, its text, how many bytes each attachment has, and which is the first; and where it isn't
+/// its entry.
+fn tell_frame(stream: &Stream<'_>, frame: &Frame<'_>, out: &mut Told) {
     out.show(&frame.position);
     out.text(" ");
     out.text(frame.text);
@@ -115,6 +118,10 @@ fn tell_frame(frame: &Frame<'_>, out: &mut Told) {
         out.show(&bytes.len());
         out.text(":");
         out.show(&bytes.first().copied().unwrap_or(0));
+    }
+    if let Some(part) = part_of(stream, frame) {
+        out.text(", not ");
+        out.debug(&part);
     }
     out.text("\n");
 }

@@ -48,7 +48,7 @@ c1 {"k":"in","t":"431[]"}"#,
 c1 {"k":"in","t":"42"}"#,
 ];
 
-static CASES: [&str; 29] = [
+static CASES: [&str; 30] = [
     r#"@STREAM FIRST REPLY EVENT_1 EVENT_2
 ? stays c1
 1 / reply P s1 1 2
@@ -217,7 +217,14 @@ c1 {"k":"in","t":"452-[\"g\",\"5-0\"]"}
 c1 {"k":"inb","b":"AQI="}
 c1 {"k":"poll","t":"bBA=="}
 ? frames c1
-5 52-["g","5-0"] 2:1 1:4
+5 52-["g","5-0"] 2:1 1:4, not Text { at: 1 }
+"#,
+    // An event that is its entry, and one that isn't.
+    r#"@STREAM FIRST EVENT_1
+c1 {"k":"in","t":"42[\"ho\",\"2-0\"]"}
+? frames c1
+1 2["hi","1-0"]
+2 2["ho","2-0"], not Text { at: 4 }
 "#,
     // Two sessions one after the other, the first of which comes back.
     r#"@STREAM FIRST REPLY EVENT_1 LOST SECOND REPLY_Q EVENT_2 LOST THIRD ASK EVENT_2 REPLY

@@ -1,7 +1,8 @@
-//! Where entries stand in the stream, which of them are sent again, and whom these are addressed to or except.
+//! Where entries stand in the stream, which of them are sent again and known by their texts, and whom these are
+//! addressed to or except.
 use crate::judgement::asked::{assert_answers, cut};
 use crate::judgement::told::Told;
-use aud_node::{Stream, offset};
+use aud_node::{KnownEvent, Stream, offset};
 use std::test::Fail;
 
 /// A room that is named twice counts once; an event that isn't sent again is addressed to nobody.
@@ -31,6 +32,14 @@ st {"k":"ev","off":"9-0","nsp":"/n","text":"2/n,[\"hi\",\"9-0\"]"}
 8-0 at 8 of 9, sent again false
 ? entry 10-0
 nowhere
+? known 2["hi","2-0"]
+Some(1), Some(1)
+? known 2/n,["hi","9-0"]
+Some(8), Some(8)
+? known 2["hi","10-0"]
+None, None
+? known 2["hi"]
+None, None
 ? addressees / r
 [1, 2], to all [3], excepting []
 ? addressees / q
@@ -61,6 +70,17 @@ pub fn tell_entry(stream: &Stream<'_>, off: &str, out: &mut Told) {
     out.show(&stream.entries().len());
     out.text(", sent again ");
     out.show(&stream.recoverable(position));
+}
+
+/// How many entries stand before the event that is known by this text: by the guess, and by a wrong one.
+pub fn tell_known(stream: &Stream<'_>, text: &str, out: &mut Told) {
+    out.debug(&before(stream.known(text, stream.guess(text))));
+    out.text(", ");
+    out.debug(&before(stream.known(text, Some(0))));
+}
+
+fn before(known: Option<KnownEvent<'_>>) -> Option<usize> {
+    Some(known?.before)
 }
 
 /// The positions of the entries of the namespace that name the room, of those for the whole namespace, and of those of
