@@ -9,3 +9,4 @@ pub mod Read
 pub mod Naming
 pub mod Nodes
 pub mod Firsts
+pub mod Unaltered

@@ -1,14 +1,21 @@
 -- Other entries of a session with the same fault.
-use Rattle.std.specs.Prelude.{◌≡◌, ◌⊎◌, ◌++◌, ◌&&◌, ◌||◌, not, ℕ, zero, suc, ◌+◌, ◌-◌, Bool, true, false, List, [], ◌∷◌, map, take, drop, length, slice_get, count_by, nat_eq, nat_lt, option_to_list, Option, None, if◌then◌else◌}
+use Rattle.std.specs.Prelude.{◌≡◌, ◌⊎◌, ◌++◌, ◌&&◌, ◌||◌, not, ℕ, zero, suc, ◌+◌, ◌-◌, Bool, true, false, List, [], ◌∷◌, map, take, drop, length, slice_get, count_by, nat_eq, nat_lt, option_to_list, Option, Some, None, if◌then◌else◌}
+use Rattle.std.specs.Cmp.Lexicographic.{pointwise}
+use Rattle.std.specs.List.{filter}
 use Rattle.std.specs.Option.{option_map, option_and_then}
+use Rattle.std.specs.Str.{bytes_eq}
+use Rattle.aud_tap.specs.declared.records.StreamRec.{StreamRec}
+use Rattle.aud_tap.specs.declared.records.StreamRec.TheVariants.{Ev, Other}
 use Rattle.aud_node.specs.Cluster.{Cluster}
-use Rattle.aud_node.specs.Stream.{Text}
-use Rattle.aud_cert.specs.declared.fault.Fault.TheVariants.{Tail}
+use Rattle.aud_node.specs.Stream.{Text, entry}
+use Rattle.aud_client.specs.StaySeen.{FrameSeen}
+use Rattle.aud_cert.specs.declared.fault.Fault.TheVariants.{Content, Tail}
 use Rattle.aud_check.specs.declared.difference.Difference.{Difference}
 use Rattle.aud_check.specs.declared.difference.Difference.TheVariants.{Extra, Doubled, Swapped, Lost}
 use Rattle.aud_check.specs.declared.finding.Finding.{Finding}
 use Rattle.aud_check.specs.Difference.{IsAscending, IsDifference, has_position}
 use Rattle.aud_session_facts.specs.Account.{IsFound, difference_found}
+use Rattle.aud_check.specs.Frames.{frames_in}
 use Rattle.aud_check.specs.Window.{positions_received}
 use Rattle.aud_input.specs.TapLines.{TapLines}
 use Rattle.aud_verdict.specs.declared.verdict.Verdict.{Verdict}
@@ -57,6 +64,27 @@ is_also received due (Lost frame position) p = has_position due p && (is_passed 
 pub record AreAllOf (test : ℕ → Bool) (positions : List ℕ) : Type 0 where
   pub ascending : IsAscending positions
   pub all : (p : ℕ) → has_position positions p ≡ test p
+
+-- ---- which frames
+
+-- the frame is the entry, if there is one: its text and its attachments are the entry's, byte for byte
+abbrev pub is_of : FrameSeen → Option StreamRec → Bool
+is_of frame None = false
+is_of frame (Some (Ev event)) = bytes_eq frame.text event.text && pointwise bytes_eq frame.bin event.bin
+is_of frame (Some (Other off)) = false
+
+-- the frame is the entry at its position
+abbrev pub is_entry : List StreamRec → FrameSeen → Bool
+is_entry stream frame = is_of frame (entry stream frame.position)
+
+-- the positions of the frames that aren't the entry there, in the order in which they came
+abbrev pub altered_positions : List StreamRec → List FrameSeen → List ℕ
+altered_positions stream frames = map (λ (frame : FrameSeen). frame.position) (filter (λ frame. not (is_entry stream frame)) frames)
+
+-- it is one of these, and another one than the first, which is shown
+abbrev pub is_another : List ℕ → ℕ → Bool
+is_another [] p = false
+is_another (first ∷ positions) p = has_position positions p && not (nat_eq p first)
 
 -- ---- in ranges
 
@@ -116,6 +144,21 @@ got_lines c lines place numbers received p = frame_lines c lines place numbers p
 abbrev pub lines_at : Cluster → List TapLines → ℕ → List ℕ → List ℕ → Difference → ℕ → List ℕ
 lines_at c lines place numbers received (Lost frame due) = entry_lines c lines
 lines_at c lines place numbers received _ = got_lines c lines place numbers received
+
+-- the frame is of the position, and isn't the entry there
+abbrev pub is_altered_at : List StreamRec → ℕ → FrameSeen → Bool
+is_altered_at stream p frame = nat_eq frame.position p && not (is_entry stream frame)
+
+-- those of the frames of the position that aren't the entry there, of which these frames are the one with this number
+-- and on
+abbrev pub altered_frame_lines : Cluster → List TapLines → ℕ → List ℕ → ℕ → ℕ → List FrameSeen → List ℕ
+altered_frame_lines c lines place numbers p number [] = []
+altered_frame_lines c lines place numbers p number (frame ∷ frames) =
+    (if is_altered_at c.stream p frame then frame_line c lines place numbers number else []) ++ altered_frame_lines c lines place numbers p (suc number) frames
+
+-- that of the entry, and those of all frames of it that aren't it
+abbrev pub altered_lines : Cluster → List TapLines → ℕ → List ℕ → List FrameSeen → ℕ → List ℕ
+altered_lines c lines place numbers frames p = entry_lines c lines p ++ altered_frame_lines c lines place numbers p 0 frames
 
 -- ---- what is told of them
 
@@ -190,6 +233,19 @@ pub record AreTailAlso (c : Cluster) (lines : List TapLines) (pid : Text) (also 
   pub is_session : IsSession c pid session
   pub are : also ≡ told_of (entry_lines c lines) (tail_others (positions_received (own_stays c session)) (due_to c session))
 
+-- ---- of frames that aren't their entries
+
+-- this is told of the entries of which the client received a frame of the session with this pid that isn't the entry,
+-- past the first such one
+pub record AreAlteredAlso (c : Cluster) (lines : List TapLines) (pid : Text) (also : OthersSeen) : Type 0 where
+  pub session : SessionLogs
+  pub is_session : IsSession c pid session
+  pub numbers : List ℕ
+  pub are_its_stays : AreNumbersOf c pid session.client numbers
+  pub others : List ℕ
+  pub are_all : AreAllOf (is_another (altered_positions c.stream (frames_in (own_stays c session)))) others
+  pub are : also ≡ told_of (altered_lines c lines session.client numbers (frames_in (own_stays c session))) others
+
 -- ---- where they are told of
 
 -- the fault is a tail
@@ -197,9 +253,15 @@ abbrev pub is_short : Verdict → Bool
 is_short (No (Tail count)) = true
 is_short _ = false
 
+-- the fault is that a frame isn't its entry
+abbrev pub is_altered : Verdict → Bool
+is_altered (No (Content off)) = true
+is_altered _ = false
+
 -- they are told of where the session's turns and its client are known, and the fault is one of these; else there are none
 abbrev pub IsAlsoShown : Cluster → List TapLines → Text → Bool → Verdict → OthersSeen → Type 0
 IsAlsoShown c lines pid known verdict also =
     ((known && is_parted verdict) ≡ true → AreAlso c lines pid also)
     × ((known && is_short verdict) ≡ true → AreTailAlso c lines pid also)
-    × ((known && (is_parted verdict || is_short verdict)) ≡ false → also ≡ no_others)
+    × ((known && is_altered verdict) ≡ true → AreAlteredAlso c lines pid also)
+    × ((known && (is_parted verdict || (is_short verdict || is_altered verdict))) ≡ false → also ≡ no_others)

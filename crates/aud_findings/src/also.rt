@@ -1,5 +1,5 @@
 //! The other entries that have the same fault, with the lines that show it.
-ghost use Rattle.std.specs.Prelude.{◌≡◌, ◌++◌, IfOk, IfSome, OnOk, is_some, option_map};
+ghost use Rattle.std.specs.Prelude.{◌≡◌, ◌++◌, ◌||◌, IfOk, IfSome, OnOk, false, is_some, option_map, true};
 ghost use Rattle.aud_session_facts.specs.Account.{IsAccountOf};
 ghost use Rattle.aud_rows.specs.ClientPlaces.{AreOf};
 ghost use Rattle.aud_rows.specs.Seen.{row_seen};
@@ -7,10 +7,11 @@ ghost use Rattle.aud_rows.specs.StayRows.{stays_at};
 ghost use Rattle.aud_rows.specs.TrueRow.{IsTrueRow};
 ghost use Rattle.aud_shown.specs.FramePlaces.{frame_at};
 ghost use Rattle.aud_findings.specs.Prepared.{IsPreparedOf};
-ghost use Rattle.aud_findings.specs.Also.{AreAlso, IsAlsoShown, also_seen, end_lines, entry_lines, frame_row_at, got_lines, is_short, line_of, lines_at, no_others, others_seen, range_shown, told_of};
+ghost use Rattle.aud_findings.specs.Also.{AreAlso, AreAlteredAlso, IsAlsoShown, also_seen, end_lines, entry_lines, frame_row_at, got_lines, is_altered, is_short, line_of, lines_at, no_others, others_seen, range_shown, told_of};
 ghost use Rattle.aud_findings.specs.Received.{is_parted};
 ghost use Rattle.aud_findings.specs.Private.InRanges.{range_seen};
 
+use crate::altered::altered_also;
 use crate::others::others;
 use crate::outcome::{AlsoShown, OthersShown};
 use crate::prepared::Prepared;
@@ -27,7 +28,8 @@ use aud_verdict::Verdict;
 use std::alloc::{AllocError, Global};
 
 /// The other entries that have the fault, where the verdict is that what was received parts from what was due, or ends
-/// before it, and there is an account; else none. The tap of the client is read where it wasn't prepared.
+/// before it, or that a frame isn't its entry, and there is an account; else none. The tap of the client is read where
+/// it wasn't prepared.
 pub(crate) fn also_found<'r, 'a>(
     alloc: Global,
     sheet: &Sheet<'r, 'a>,
@@ -42,7 +44,9 @@ pub(crate) fn also_found<'r, 'a>(
         (is_some account.entry) verdict.now (others_seen also)) }
 {
     match account {
-        Some(account) if is_parted(verdict) => also_in(alloc, sheet, prepared, pid, account),
+        Some(account) if is_of_frames(verdict) => {
+            also_in(alloc, sheet, prepared, pid, verdict, account)
+        }
         Some(account) if is_short(verdict) => tail_also(alloc, sheet, account),
         _ => Ok(no_others(alloc)),
     }
@@ -64,20 +68,46 @@ fn also_in<'r, 'a>(
     sheet: &Sheet<'r, 'a>,
     prepared: &Prepared,
     pid: &str,
+    verdict: &Verdict,
     account: &Account<'r, 'a>,
 ) -> Result<OthersShown, AllocError>
     requires prepared { IsPreparedOf sheet.now.recording.now prepared.now }
     requires account { IsAccountOf sheet.now.recording.now pid.now account.now }
-    ensures { IfOk result (λ also. AreAlso sheet.now.recording.now sheet.now.lines.now pid.now
-        (others_seen also)) }
+    ensures parted { is_parted verdict.now ≡ true → IfOk result (λ also.
+        AreAlso sheet.now.recording.now sheet.now.lines.now pid.now (others_seen also)) }
+    ensures altered { is_parted verdict.now ≡ false → IfOk result (λ also.
+        AreAlteredAlso sheet.now.recording.now sheet.now.lines.now pid.now (others_seen also)) }
 {
     match prepared.tap(account.client) {
-        Some(tap) => also_of(alloc, sheet, tap, pid, account),
+        Some(tap) => also_by(alloc, sheet, tap, pid, verdict, account),
         None => {
             let tap = ClientPlaces::read(alloc, sheet.recording.logs(), account.client)?;
-            also_of(alloc, sheet, &tap, pid, account)
+            also_by(alloc, sheet, &tap, pid, verdict, account)
         }
     }
+}
+
+/// The same by the client's tap.
+fn also_by<'r, 'a>(
+    alloc: Global,
+    sheet: &Sheet<'r, 'a>,
+    tap: &ClientPlaces,
+    pid: &str,
+    verdict: &Verdict,
+    account: &Account<'r, 'a>,
+) -> Result<OthersShown, AllocError>
+    requires tap { AreOf sheet.now.recording.now tap.now }
+    requires place { tap.now.place ≡ account.now.client }
+    requires account { IsAccountOf sheet.now.recording.now pid.now account.now }
+    ensures parted { is_parted verdict.now ≡ true → IfOk result (λ also.
+        AreAlso sheet.now.recording.now sheet.now.lines.now pid.now (others_seen also)) }
+    ensures altered { is_parted verdict.now ≡ false → IfOk result (λ also.
+        AreAlteredAlso sheet.now.recording.now sheet.now.lines.now pid.now (others_seen also)) }
+{
+    if is_parted(verdict) {
+        return also_of(alloc, sheet, tap, pid, account);
+    }
+    altered_also(alloc, sheet, tap, pid, account)
 }
 
 /// Whether the verdict is that what was received parts from what was due.
@@ -91,6 +121,20 @@ pub(crate) fn is_parted(verdict: &Verdict) -> bool
             Fault::Extra(_) | Fault::Doubled(_) | Fault::Swapped(_) | Fault::Lost(_)
         ),
     }
+}
+
+/// Whether the verdict is that a frame isn't its entry.
+fn is_altered(verdict: &Verdict) -> bool
+    ensures { result ≡ is_altered verdict.now }
+{
+    matches!(verdict, Verdict::No(Fault::Content(_)))
+}
+
+/// Whether frames show the fault, so that the client's tap is needed.
+fn is_of_frames(verdict: &Verdict) -> bool
+    ensures { result ≡ (is_parted verdict.now || is_altered verdict.now) }
+{
+    is_parted(verdict) || is_altered(verdict)
 }
 
 /// Whether the verdict is that of a tail.
@@ -172,7 +216,11 @@ pub(crate) fn entries_also(
 }
 
 /// The range, where these are the lines of its first entry and of its last one.
-fn range_shown(range: Range, first: Vec<u64>, last: &[u64]) -> Result<AlsoShown, AllocError>
+pub(crate) fn range_shown(
+    range: Range,
+    first: Vec<u64>,
+    last: &[u64],
+) -> Result<AlsoShown, AllocError>
     ensures { IfOk result (λ also. also_seen also
         ≡ range_shown (range_seen range) first.items last.now) }
 {
@@ -204,7 +252,11 @@ fn end_lines(first: Vec<u64>, last: &[u64]) -> Result<Vec<u64>, AllocError>
 }
 
 /// The line of the entry.
-fn entry_lines(alloc: Global, sheet: &Sheet<'_, '_>, position: u64) -> Result<Vec<u64>, AllocError>
+pub(crate) fn entry_lines(
+    alloc: Global,
+    sheet: &Sheet<'_, '_>,
+    position: u64,
+) -> Result<Vec<u64>, AllocError>
     ensures { IfOk result (λ lines. lines.items
         ≡ entry_lines sheet.now.recording.now sheet.now.lines.now position) }
 {
@@ -267,7 +319,7 @@ fn frame_lines(
 }
 
 /// Adds the line of the row, if there is one.
-fn push_line(lines: &mut Vec<u64>, row: Option<Row<'_>>) -> Result<(), AllocError>
+pub(crate) fn push_line(lines: &mut Vec<u64>, row: Option<Row<'_>>) -> Result<(), AllocError>
     ensures { OnOk result (lines.new.items
         ≡ lines.old.items ++ line_of (option_map row_seen row.entry)) }
 {

@@ -19,6 +19,7 @@
 
 mod account;
 mod also;
+mod altered;
 mod behind;
 mod beside;
 mod chain;

@@ -52,8 +52,8 @@ pub struct Outcome<'r> {
     /// The records that show the fault.
     pub evidence: Vec<Row<'r>>,
     /// The other entries with the same fault: of one that wasn't due those that came and weren't due either; of one that
-    /// came twice, too late or never those due that did so too; of a tail those after its first one. None of other
-    /// faults.
+    /// came twice, too late or never those due that did so too; of a frame that isn't its entry those of which a frame
+    /// isn't either; of a tail those after its first one. None of other faults.
     pub also: OthersShown,
 }
 

@@ -40,7 +40,7 @@ c1 {"k":"in","t":"40{\"sid\":\"s1\",\"pid\":\"P\"}"}
 ];
 
 /// What is told first of each of them; what the client receives after its reply stands in a third file.
-static CASES: [&str; 4] = [
+static CASES: [&str; 6] = [
     r#"explain --json
 @ALL TAKEN
 c1 {"k":"in","t":"42[\"m\",\"o1\"]"}
@@ -85,6 +85,45 @@ c1 {"k":"in","t":"42[\"m\",\"o4\"]"}
 c1 {"k":"in","t":"42[\"m\",\"o6\"]"}
 -> Ok(SomeNo)
 {"alike":[],"also":[{"lines":[19,20],"position":3,"to":4}],"also_left":0,"at_frame":1,*"#,
+    // The frames of the entries 2, 4 and 5 aren't these entries.
+    r#"explain
+@ALL TAKEN
+c1 {"k":"in","t":"42[\"m\",\"o1\"]"}
+c1 {"k":"in","t":"42[\"n\",\"o2\"]"}
+c1 {"k":"in","t":"42[\"m\",\"o3\"]"}
+c1 {"k":"in","t":"42[\"n\",\"o4\"]"}
+c1 {"k":"in","t":"42[\"n\",\"o5\"]"}
+c1 {"k":"in","t":"42[\"m\",\"o6\"]"}
+c1 {"k":"in","t":"42[\"m\",\"o7\"]"}
+-> Ok(SomeNo)
+no P CONTENT o2 [delivery]
+client c1, namespace /, connection 1, turns 1, got 7, due 7
+    line tap  record
+       3 st   entry 2 o2  the entry
+      17 c1   conn 1 got 2 o2  <- not as the entry has it
+    also entries 4-5, lines 5 20
+    turn 0  a  11 open, cursor 0 == take 1-7 == 12 log ends, cursor 7
+    client  15 reply  16-22 got 1-7
+cause another-event (fits, line 17): The event has another name than its entry, or another number of
+        arguments.
+do: let no event but those of the stream end in a text that is an offset.
+cause altered (fits, line 17): The event's text parts from its entry's at byte 4. It has
+        2["n","o2"], and the entry has 2["m","o2"] there.
+do: look at what stands between the node and the client.
+
+sessions: *"#,
+    // Of the three frames of entry 7 the second is the entry. Entry 2 came twice so, and shows it.
+    r#"explain --json
+@ALL TAKEN
+c1 {"k":"in","t":"42[\"m\",\"o1\"]"}
+c1 {"k":"in","t":"42[\"n\",\"o2\"]"}
+c1 {"k":"in","t":"42[\"n\",\"o7\"]"}
+c1 {"k":"in","t":"42[\"m\",\"o7\"]"}
+c1 {"k":"in","t":"42[\"n\",\"o7\"]"}
+c1 {"k":"in","t":"42[\"n\",\"o2\"]"}
+c1 {"k":"in","t":"42[\"n\",\"o4\"]"}
+-> Ok(SomeNo)
+{"alike":[],"also":[{"lines":[5,22],"position":4,"to":4},{"lines":[8,18,20],"position":7,"to":7}],"also_left":0,"at_frame":null,*"#,
 ];
 
 #[test]

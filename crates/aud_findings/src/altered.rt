@@ -1,0 +1,171 @@
+//! The other entries of which a frame came that isn't the entry, with the lines that show it.
+ghost use Rattle.std.specs.Prelude.{◌≡◌, ◌++◌, IfOk, OnOk, filter, map, nat_eq, not, [], ◌∷◌};
+ghost use Rattle.aud_session_facts.specs.Account.{IsAccountOf};
+ghost use Rattle.aud_rows.specs.ClientPlaces.{AreOf};
+ghost use Rattle.aud_findings.specs.Also.{AreAllOf, AreAlteredAlso, altered_lines, altered_positions, is_altered_at, is_entry, is_another, others_seen, told_of};
+
+use crate::also::{entry_lines, frame_row, push_line, range_shown};
+use crate::outcome::OthersShown;
+use crate::ranges::ranges_of;
+use crate::replies::numbers_naming;
+use aud_check::{frames_in, part_of};
+use aud_client::Frame;
+use aud_node::Stream;
+use aud_rows::{ClientPlaces, Role, Sheet};
+use aud_session_facts::Account;
+use std::alloc::{AllocError, Global};
+
+/// The other entries of which a frame that the client received of the session isn't the entry: past the first such one.
+/// It compares each frame with its entry once, and for each of a hundred ranges at most those of its two ends.
+pub(crate) fn altered_also<'r, 'a>(
+    alloc: Global,
+    sheet: &Sheet<'r, 'a>,
+    tap: &ClientPlaces,
+    pid: &str,
+    account: &Account<'r, 'a>,
+) -> Result<OthersShown, AllocError>
+    requires tap { AreOf sheet.now.recording.now tap.now }
+    requires place { tap.now.place ≡ account.now.client }
+    requires account { IsAccountOf sheet.now.recording.now pid.now account.now }
+    ensures { IfOk result (λ also. AreAlteredAlso sheet.now.recording.now sheet.now.lines.now
+        pid.now (others_seen also)) }
+{
+    let numbers = numbers_naming(sheet.recording, tap.place, pid);
+    let stream = sheet.recording.logs().stream();
+    let came = frames_in(alloc, account.stays.as_slice())?;
+    let frames = came.as_slice();
+    let altered = altered_positions(alloc, stream, frames)?;
+    let found = past_first(alloc, altered.as_slice())?;
+    let others = found.as_slice();
+    all_altered(alloc, sheet, tap, numbers, frames, others)
+}
+
+/// These entries, each as it stands in the stream and as it came.
+fn all_altered(
+    alloc: Global,
+    sheet: &Sheet<'_, '_>,
+    tap: &ClientPlaces,
+    numbers: &[usize],
+    frames: &[&Frame<'_>],
+    others: &[u64],
+) -> Result<OthersShown, AllocError>
+    requires { AreOf sheet.now.recording.now tap.now }
+    ensures { IfOk result (λ also. others_seen also
+        ≡ told_of (altered_lines sheet.now.recording.now sheet.now.lines.now tap.now.place
+        numbers.now (map (λ frame. frame.now) frames.now)) others.now) }
+{
+    let entries = ranges_of(alloc, others, 100)?;
+    let mut ranges = Vec::new(alloc);
+    for range in &entries.found {
+        let first = altered_lines(alloc, sheet, tap, numbers, frames, range.first)?;
+        let last = altered_lines(alloc, sheet, tap, numbers, frames, range.last)?;
+        ranges.push(range_shown(*range, first, &last)?)?;
+    }
+    Ok(OthersShown {
+        ranges,
+        left: entries.left,
+    })
+}
+
+/// The line of the entry at the position, and those of all frames of it that aren't it.
+fn altered_lines(
+    alloc: Global,
+    sheet: &Sheet<'_, '_>,
+    tap: &ClientPlaces,
+    numbers: &[usize],
+    frames: &[&Frame<'_>],
+    position: u64,
+) -> Result<Vec<u64>, AllocError>
+    requires { AreOf sheet.now.recording.now tap.now }
+    ensures { IfOk result (λ lines. lines.items
+        ≡ altered_lines sheet.now.recording.now sheet.now.lines.now tap.now.place numbers.now
+        (map (λ frame. frame.now) frames.now) position) }
+{
+    let mut lines = entry_lines(alloc, sheet, position)?;
+    for (number, frame) in frames.iter().enumerate() {
+        if is_altered_at(sheet.recording.logs().stream(), position, *frame) {
+            push_line(
+                &mut lines,
+                frame_row(sheet, tap, numbers, number, Role::Later),
+            )?;
+        }
+    }
+    Ok(lines)
+}
+
+/// Whether the frame is of the position, and isn't the entry there.
+fn is_altered_at(stream: &Stream<'_>, position: u64, frame: &Frame<'_>) -> bool
+    ensures { result ≡ is_altered_at stream.now position frame.now }
+{
+    if frame.position != position {
+        return false;
+    }
+    !is_entry(stream, frame)
+}
+
+/// Whether the frame is the entry at its position.
+#[tactic(auto, using(crate::proofs::Unaltered::none_there))]
+fn is_entry(stream: &Stream<'_>, frame: &Frame<'_>) -> bool
+    ensures { result ≡ is_entry stream.now frame.now }
+{
+    part_of(stream, frame).is_none()
+}
+
+/// The positions of the frames that aren't the entry there, in the order in which they came.
+fn altered_positions(
+    alloc: Global,
+    stream: &Stream<'_>,
+    frames: &[&Frame<'_>],
+) -> Result<Vec<u64>, AllocError>
+    ensures { IfOk result (λ found. found.items
+        ≡ altered_positions stream.now (map (λ frame. frame.now) frames.now)) }
+{
+    let mut found = Vec::new(alloc);
+    for frame in frames {
+        push_altered(&mut found, stream, *frame)?;
+    }
+    Ok(found)
+}
+
+/// Adds the position of the frame, if it isn't the entry there.
+fn push_altered(
+    found: &mut Vec<u64>,
+    stream: &Stream<'_>,
+    frame: &Frame<'_>,
+) -> Result<(), AllocError>
+    ensures { OnOk result (found.new.items
+        ≡ found.old.items ++ altered_positions stream.now (frame.now ∷ [])) }
+{
+    if is_entry(stream, frame) {
+        return Ok(());
+    }
+    found.push(frame.position)?;
+    Ok(())
+}
+
+/// Those of the positions that are others than the first one: ascending, each once.
+fn past_first(alloc: Global, positions: &[u64]) -> Result<Vec<u64>, AllocError>
+    ensures { IfOk result (λ found. AreAllOf (is_another positions.now) found.items) }
+{
+    let Some((first, later)) = positions.split_first() else {
+        return Ok(Vec::new(alloc));
+    };
+    let mut found = others_than(alloc, *first, later)?;
+    found.sort_unstable();
+    found.dedup();
+    Ok(found)
+}
+
+/// Those of the positions that aren't this one.
+fn others_than(alloc: Global, first: u64, positions: &[u64]) -> Result<Vec<u64>, AllocError>
+    ensures { IfOk result (λ found. found.items
+        ≡ filter (λ p. not (nat_eq p first)) positions.now) }
+{
+    let mut found = Vec::new(alloc);
+    for position in positions {
+        if *position != first {
+            found.push(*position)?;
+        }
+    }
+    Ok(found)
+}
