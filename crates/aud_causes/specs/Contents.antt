@@ -10,16 +10,17 @@ use Rattle.aud_sio.specs.Packet.{PacketSeen, packet_of}
 use Rattle.aud_tap.specs.declared.records.Event.{Event}
 use Rattle.aud_tap.specs.declared.records.StreamRec.{StreamRec}
 use Rattle.aud_tap.specs.declared.records.StreamRec.TheVariants.{Ev}
+use Rattle.aud_node.specs.Cluster.{Cluster}
 use Rattle.aud_node.specs.Stream.{Text, entry}
 use Rattle.aud_client.specs.Replies.{value_of}
-use Rattle.aud_client.specs.StaySeen.{FrameSeen, StaySeen}
-use Rattle.aud_check.specs.Frames.{frames_in}
+use Rattle.aud_client.specs.StaySeen.{FrameSeen}
 use Rattle.aud_check.specs.declared.content.Altered.{Altered as AlteredFrame}
 use Rattle.aud_causes.specs.declared.cause.Cause.{Cause}
 use Rattle.aud_causes.specs.declared.cause.Cause.TheVariants.{AnotherEncoder, AttachmentsReordered, AnotherEvent, Altered}
 use Rattle.aud_causes.specs.declared.contents.Said.{Said}
 use Rattle.aud_causes.specs.Delivery.{cause_if, held}
 use Rattle.aud_causes.specs.SameJson.{same_value}
+use Rattle.aud_causes.specs.Texts.{frame_of}
 
 -- ---- what an event says
 
@@ -134,6 +135,7 @@ abbrev pub causes_against : Option FrameSeen → Option StreamRec → AlteredFra
 causes_against (Some frame) (Some (Ev event)) altered = event_causes frame event altered
 causes_against frame entry altered = Altered altered.frame altered.part ∷ []
 
--- those of the first frame of these stays that isn't its entry
-abbrev pub content_causes : List StreamRec → List StaySeen → AlteredFrame → List Cause
-content_causes stream stays altered = causes_against (slice_get (frames_in stays) altered.frame) (entry stream altered.position) altered
+-- those of the session's first frame that isn't its entry, where these are the numbers of its stays in the client's tap
+-- at this place
+abbrev pub content_causes : Cluster → ℕ → List ℕ → AlteredFrame → List Cause
+content_causes c client numbers altered = causes_against (frame_of c numbers altered.frame client) (entry c.stream altered.position) altered

@@ -22,7 +22,7 @@ use Rattle.aud_causes.specs.Orphans.{orphan_causes}
 -- the causes of what was found: of an event that isn't its entry, of where what was received parts from what was due, and
 -- of a recovery that was asked for where it doesn't fit
 abbrev pub causes_found : Case → Option Finding → List Cause
-causes_found s (Some (Content altered)) = content_causes s.c.stream s.stays altered
+causes_found s (Some (Content altered)) = content_causes s.c s.client s.numbers altered
 causes_found s (Some (Delivery difference)) = difference_causes s difference
 causes_found s (Some (Window window)) = window_causes s.c.stream s.stays s.due window
 causes_found s _ = []

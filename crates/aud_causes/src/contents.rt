@@ -1,5 +1,5 @@
 //! What an event that isn't its entry may come from.
-ghost use Rattle.std.specs.Prelude.{◌≡◌, ◌&&◌, IfOk, map, not, option_map, slice_get};
+ghost use Rattle.std.specs.Prelude.{◌≡◌, ◌&&◌, IfOk, map, not, option_map};
 ghost use Rattle.std.specs.Option.{option_copied};
 ghost use Rattle.serde_json.specs.View.{view};
 ghost use Rattle.aud_sio.specs.Message.{blob_bytes};
@@ -11,33 +11,29 @@ ghost use Rattle.aud_causes.specs.Contents.{are_same, are_same_in_any_order, con
 use crate::cause::Cause;
 use crate::list::held;
 use crate::same_json::same_value;
-use aud_check::{Altered, frames_in};
-use aud_client::{Frame, Stay};
-use aud_node::Stream;
+use crate::texts::frame_of;
+use aud_check::Altered;
+use aud_client::{Frame, Recording};
 use aud_sio::{Blob, SioFault, decode};
 use aud_tap::{Bytes, Event, StreamRec};
 use serde_json::Value;
 use std::alloc::{AllocError, Global};
 
-/// The causes of the first frame of these stays that isn't its entry. It costs the frames, and reads two texts as JSON.
+/// The causes of the session's first frame that isn't its entry, where these are the numbers of its stays in the client's
+/// tap at this place. It costs the stays, and reads two texts as JSON.
 pub(crate) fn content_causes(
     alloc: Global,
-    stream: &Stream<'_>,
-    stays: &[&Stay<'_>],
+    recording: &Recording<'_>,
+    client: usize,
+    numbers: &[usize],
     altered: Altered,
 ) -> Result<Vec<Cause>, AllocError>
     ensures { IfOk result (λ causes. causes.items
-        ≡ content_causes stream.now (map (λ stay. stay.now) stays.now) altered) }
+        ≡ content_causes recording.now client numbers.now altered) }
 {
-    let frames = frames_in(alloc, stays)?;
-    let frame = frame_at(&frames, altered.frame);
-    causes_against(alloc, frame, stream.entry(altered.position), altered)
-}
-
-fn frame_at<'s, 'a>(frames: &[&'s Frame<'a>], number: usize) -> Option<&'s Frame<'a>>
-    ensures { option_copied result ≡ slice_get (map (λ frame. frame.now) frames.now) number }
-{
-    frames.get(number).copied()
+    let frame = frame_of(recording, Some(client), numbers, altered.frame);
+    let entry = recording.logs().stream().entry(altered.position);
+    causes_against(alloc, frame, entry, altered)
 }
 
 /// The same of this frame, where it is there and its entry is an event.

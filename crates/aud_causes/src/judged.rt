@@ -60,7 +60,7 @@ fn causes_found(
 {
     match found {
         Some(Finding::Content(altered)) => {
-            content_causes(alloc, recording.logs().stream(), &account.stays, altered)
+            content_causes(alloc, recording, account.client, numbers, altered)
         }
         Some(Finding::Delivery(difference)) => {
             difference_causes(alloc, recording, account, numbers, difference)

@@ -57,7 +57,7 @@ fn apart_in(cause: Cause) -> Option<Apart>
 }
 
 /// The session's frame with this number, where these are the numbers of its stays in the client's tap at this place.
-fn frame_of<'r, 'a>(
+pub(crate) fn frame_of<'r, 'a>(
     recording: &'r Recording<'a>,
     client: Option<usize>,
     numbers: &[usize],
