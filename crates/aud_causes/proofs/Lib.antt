@@ -4,3 +4,4 @@ mod Told
 mod Sure
 mod TurnLemmas
 mod ItemLemmas
+mod Listed

@@ -1,7 +1,7 @@
 -- Which causes a fault can have, and which of them were refuted.
 use Rattle.std.specs.Prelude.{Bool, not, List, [], ◌∷◌, codes}
 use Rattle.std.specs.Borrow.{Bor}
-use Rattle.std.specs.List.{filter, list_any}
+use Rattle.std.specs.List.{filter, list_all, list_any}
 use Rattle.std.specs.Str.{bytes_eq}
 use Rattle.aud_node.specs.Stream.{Text}
 use Rattle.aud_cert.specs.declared.fault.Fault.{Fault}
@@ -38,6 +38,14 @@ candidates (fault.Lost off) =
     ∷ codes "lost-live" ∷ codes "leave-missing" ∷ []
 candidates (fault.Window conn) = codes "no-offset" ∷ codes "unknown-offset" ∷ codes "stale-offset" ∷ codes "offset-of-another-session" ∷ []
 candidates (fault.Tail count) = []
+
+-- the fault can have a cause of this name
+abbrev pub is_candidate : Fault → Text → Bool
+is_candidate fault id = list_any (bytes_eq id) (candidates fault)
+
+-- each of the causes that are told has a name of the fault's list
+abbrev pub are_candidates : Fault → List CauseFound → Bool
+are_candidates fault told = list_all (λ (cause : CauseFound). is_candidate fault cause.id.now) told
 
 -- those of the fault, where the verdict is no
 abbrev pub candidates_for : Verdict → List Text

@@ -1,0 +1,97 @@
+-- The causes of what a session's client tells otherwise than the nodes, or of nobody, have names of the fault's list.
+use Rattle.std.proofs.Common.{◌≡◌, ℕ, Bool, true, false, List, [], ◌∷◌, Option, Some, None, cond, not, refl, slice_get}
+use Rattle.std.specs.Prelude.{is_none, is_some}
+use Rattle.std.specs.List.{list_all}
+use Rattle.std.specs.Str.{bytes_eq}
+use Rattle.aud_node.specs.Cluster.{Cluster}
+use Rattle.aud_node.specs.Stream.{Text}
+use Rattle.aud_client.specs.Replies.{ReplySeen}
+use Rattle.aud_client.specs.StaySeen.{AskedSeen, StaySeen}
+use Rattle.aud_cert.specs.Certificate.{TurnSeen}
+use Rattle.aud_cert.specs.declared.fault.Fault.TheVariants as fault
+use Rattle.aud_check.specs.NamedStays.{has_sid}
+use Rattle.aud_session_facts.specs.Opened.{opened_in}
+use Rattle.aud_session_facts.specs.Recoveries.{stays_at}
+use Rattle.aud_causes.specs.declared.cause.Cause.{Cause}
+use Rattle.aud_causes.specs.declared.cause.Cause.TheVariants.{NamespaceDiffers, OutAfterAnswer, ReplyWithoutPid, SecondConnect, SidDiffers}
+use Rattle.aud_causes.specs.Judged.{names_by, names_causes, named_at, orphan_at, other_at}
+use Rattle.aud_causes.specs.Names.{first_other, namespace_differs, sid_differs}
+use Rattle.aud_causes.specs.Differences.{cause_and}
+use Rattle.aud_causes.specs.Orphans.{answered_causes, before_causes, causes_of_before, is_disconnect, last_of_stay, orphan_causes_of, out_after_answer, replied_causes, stay_before, unreplied_causes, without_reply}
+use Rattle.aud_causes.proofs.Listed.Each.{OfSome, is_listed, of_and, of_held, of_if}
+
+-- ---- NAMES
+
+-- the cause has a name of its list
+abbrev in_names : Cause → Bool
+in_names = is_listed fault.Names
+
+named_listed : (number : ℕ) (sid nsp : Text) (stay : Option StaySeen) → list_all in_names (named_at number sid nsp stay) ≡ true
+named_listed number sid nsp None = refl
+named_listed number sid nsp (Some stay) =
+    of_held in_names (sid_differs number sid stay ∷ namespace_differs number nsp stay ∷ [])
+    (of_if in_names (not (has_sid sid stay.reply)) (SidDiffers number) refl, (of_if in_names (not (bytes_eq stay.nsp nsp)) (NamespaceDiffers number) refl, tt))
+
+other_listed : (sid nsp : Text) (stays : List StaySeen) (number : Option ℕ) → list_all in_names (other_at sid nsp stays number) ≡ true
+other_listed sid nsp stays None = refl
+other_listed sid nsp stays (Some number) = named_listed number sid nsp (slice_get stays number)
+
+opened_listed : (opened : Option (Text × Text × ℕ)) (stays : List StaySeen) → list_all in_names (names_by opened stays) ≡ true
+opened_listed None stays = refl
+opened_listed (Some opened) stays = other_listed opened.0 opened.1 stays (first_other opened.0 opened.1 0 stays)
+
+pub names_listed : (turns : List TurnSeen) (stays : List StaySeen) → list_all in_names (names_causes turns stays) ≡ true
+names_listed turns stays = opened_listed (opened_in turns) stays
+
+-- ---- ORPHAN
+
+-- the cause has a name of its list
+abbrev in_orphan : Cause → Bool
+in_orphan = is_listed fault.Orphan
+
+-- a list that is told where a test holds
+list_if : (b : Bool) (causes : List Cause) → list_all in_orphan causes ≡ true → list_all in_orphan (cond b causes []) ≡ true
+list_if true causes h = h
+list_if false causes h = refl
+
+without_listed : (number : ℕ) (asked : Option AskedSeen) (before : Option ℕ) → OfSome in_orphan (without_reply number asked before)
+without_listed number (Some asked) before = refl
+without_listed number None (Some before) = tt
+without_listed number None None = refl
+
+answered_listed : (number before : ℕ) (stay : StaySeen) → list_all in_orphan (answered_causes number before stay) ≡ true
+answered_listed number before stay =
+    list_if (is_some stay.reply) (cause_and (out_after_answer number before stay) (SecondConnect before number ∷ []))
+    (of_and in_orphan (out_after_answer number before stay) (SecondConnect before number ∷ []) (of_if in_orphan (is_none stay.asked) (OutAfterAnswer before number) refl) refl)
+
+before_listed : (number before : ℕ) (left : Bool) (stay : Option StaySeen) → list_all in_orphan (before_causes number before left stay) ≡ true
+before_listed number before true stay = refl
+before_listed number before false None = refl
+before_listed number before false (Some stay) = answered_listed number before stay
+
+of_before_listed : (c : Cluster) (client number : ℕ) (before : Option ℕ) → list_all in_orphan (causes_of_before c client number before) ≡ true
+of_before_listed c client number None = refl
+of_before_listed c client number (Some before) =
+    before_listed number before (is_disconnect (last_of_stay c client before)) (slice_get (stays_at c client) before)
+
+unreplied_listed : (c : Cluster) (client number : ℕ) (stay : StaySeen) (before : Option ℕ) → list_all in_orphan (unreplied_causes c client number stay before) ≡ true
+unreplied_listed c client number stay before =
+    of_and in_orphan (without_reply number stay.asked before) (causes_of_before c client number before)
+    (without_listed number stay.asked before)
+    (of_before_listed c client number before)
+
+replied_listed : (c : Cluster) (client number : ℕ) (stay : StaySeen) (reply : Option ReplySeen) → list_all in_orphan (replied_causes c client number stay reply) ≡ true
+replied_listed c client number stay None = unreplied_listed c client number stay (stay_before (stays_at c client) number stay)
+replied_listed c client number stay (Some reply) = unless (is_some reply.pid)
+  where
+    unless : (b : Bool) → list_all in_orphan (cond b [] (ReplyWithoutPid number ∷ [])) ≡ true
+    unless true = refl
+    unless false = refl
+
+of_stay_listed : (c : Cluster) (client number : ℕ) (stay : Option StaySeen) → list_all in_orphan (orphan_causes_of c client number stay) ≡ true
+of_stay_listed c client number None = refl
+of_stay_listed c client number (Some stay) = replied_listed c client number stay stay.reply
+
+pub orphan_listed : (c : Cluster) (client : ℕ) (orphan : Option ℕ) → list_all in_orphan (orphan_at c client orphan) ≡ true
+orphan_listed c client None = refl
+orphan_listed c client (Some number) = of_stay_listed c client number (slice_get (stays_at c client) number)

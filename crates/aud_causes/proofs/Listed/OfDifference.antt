@@ -1,0 +1,203 @@
+-- The causes of a difference between what was received and what was due have names of the fault's list.
+use Rattle.std.proofs.Common.{◌≡◌, ◌-◌, ◌&&◌, ℕ, Bool, true, List, [], ◌∷◌, Option, Some, None, map, nat_eq, nat_le, nat_lt, not, refl, slice_get, take}
+use Rattle.std.specs.List.{list_all}
+use Rattle.std.specs.Option.{option_and_then, option_map, option_or}
+use Rattle.aud_node.specs.Cluster.{Cluster}
+use Rattle.aud_node.specs.Stream.{Text, entry}
+use Rattle.aud_client.specs.StaySeen.{StaySeen}
+use Rattle.aud_rooms.specs.Turns.{Turn, Who}
+use Rattle.aud_cert.specs.Certificate.{TurnSeen, turn_at}
+use Rattle.aud_cert.specs.declared.fault.Fault.TheVariants as fault
+use Rattle.aud_check.specs.Difference.{has_position}
+use Rattle.aud_check.specs.Faults.{fault_of}
+use Rattle.aud_check.specs.Frames.{offset_at}
+use Rattle.aud_check.specs.declared.difference.Difference.{Difference}
+use Rattle.aud_check.specs.declared.difference.Difference.TheVariants.{Doubled, Extra, Lost, Swapped}
+use Rattle.aud_session_facts.specs.NotDue.{why_not_due}
+use Rattle.aud_session_facts.specs.declared.place.RecordPlace.{RecordPlace}
+use Rattle.aud_session_facts.specs.Opened.{greatest_turn_high, opened_in}
+use Rattle.aud_session_facts.specs.Reasons.{Reason, BeforeBirth, Excepted, InNoTurn, NoCommonRoom}
+use Rattle.aud_causes.specs.declared.cause.Cause.{Cause}
+use Rattle.aud_causes.specs.declared.cause.Cause.TheVariants as cause
+use Rattle.aud_causes.specs.declared.facts.Facts.{Facts}
+use Rattle.aud_causes.specs.declared.facts.Replay.{Replay}
+use Rattle.aud_causes.specs.AtBreak.{first_taken, is_by_rooms_at_break, rooms_at_break}
+use Rattle.aud_causes.specs.Behind.{behind, behind_at, first_behind, first_of, last_of, node_behind}
+use Rattle.aud_causes.specs.Bodies.{body_twice, is_one_body, last_record, places_at, record_of}
+use Rattle.aud_causes.specs.Delivery.{doubled_live, is_live, is_outside, is_replayed, is_taken_live, is_this, lost_live, sent_again, skipped_in_window, stale_offset, swapped_live}
+use Rattle.aud_causes.specs.Differences.{Case, difference_causes, doubled_in, extra_by, extra_in, frame_not_recorded, lost_in, other_session_after, other_session_before, swapped_causes}
+use Rattle.aud_causes.specs.Extra.{before_birth, change_missing, ended_in, extra_live, first_left, goes_on, is_unaddressed, last_turn, late_leave, log_ended_early, reached_at, rooms_named}
+use Rattle.aud_causes.specs.Facts.{facts_of}
+use Rattle.aud_causes.specs.Leavable.{are_leavable, leave_missing_in, own_room}
+use Rattle.aud_causes.proofs.Listed.Each.{OfSome, is_listed, of_choice, of_held, of_if, of_map, of_test, of_then}
+
+-- ---- what several lists have
+
+module _ (p : Cause → Bool) where
+  behind_listed : ((broke back : RecordPlace) (high low : ℕ) → p (cause.NodeBehindBreak broke back high low) ≡ true) → (c : Cluster) (turns : List TurnSeen) (f : Facts) → OfSome p (node_behind c turns f)
+  behind_listed has c turns f =
+      let number = first_behind f.parted.position 0 0 turns in
+      of_choice p (nat_lt f.earlier f.later) (option_and_then (behind_at c turns) number) None (of_then p (behind_at c turns) at number) tt
+    where
+      at : (number : ℕ) → OfSome p (behind_at c turns number)
+      at number =
+          of_then p (λ before. option_map (behind c before) (slice_get turns number))
+          (λ before. of_map p (behind c before) (λ t. has (last_of c before) (first_of c t) before.high t.low) (slice_get turns number))
+          (slice_get turns (number - 1))
+
+  rooms_listed : ((stay after low : ℕ) → p (cause.RoomsAtBreak stay after low) ≡ true) → (c : Cluster) (who : Who) (turns : List Turn) (stays : List StaySeen) (f : Facts)
+      → OfSome p (rooms_at_break c who turns stays f)
+  rooms_listed has c who turns stays f =
+      of_test p (λ (replay : Replay). is_replayed replay f.parted.position && is_by_rooms_at_break c who turns stays f.later replay)
+      (λ (replay : Replay). cause.RoomsAtBreak f.later replay.after replay.low) (λ replay. has f.later replay.after replay.low) f.replay
+
+-- ---- EXTRA
+
+module _ (off : Text) where
+  -- the cause has a name of its list
+  abbrev in_extra : Cause → Bool
+  in_extra = is_listed (fault.Extra off)
+
+  other_before_listed : (due : List ℕ) (f : Facts) → OfSome in_extra (other_session_before due f)
+  other_before_listed due f =
+      of_test in_extra (λ after. nat_lt after f.parted.position && not (has_position due after)) (cause.OffsetOfAnotherSession f.later) (λ after. refl) f.asked
+
+  ended_listed : (c : Cluster) (pid : Text) (turns : List TurnSeen) (why : Option Reason) → OfSome in_extra (log_ended_early c pid turns why)
+  ended_listed c pid turns (Some InNoTurn) =
+      of_then in_extra (ended_in c pid turns)
+      (λ t. of_choice in_extra (goes_on pid t) (Some (cause.LogEndedEarly (last_of c t) (greatest_turn_high turns))) None refl tt)
+      (last_turn turns)
+  ended_listed c pid turns _ = tt
+
+  birth_listed : (c : Cluster) (turns : List TurnSeen) (why : Option Reason) → OfSome in_extra (before_birth c turns why)
+  birth_listed c turns (Some BeforeBirth) = of_map in_extra (λ (t : TurnSeen). cause.BeforeBirth (first_of c t) t.low) (λ t. refl) (slice_get turns 0)
+  birth_listed c turns _ = tt
+
+  left_listed : (c : Cluster) (pid : Text) (turns : List Turn) (position : ℕ) (why : Option Reason) → OfSome in_extra (late_leave c pid turns position why)
+  left_listed c pid turns position (Some NoCommonRoom) =
+      of_map in_extra cause.LateLeave (λ leave. refl)
+      (option_and_then (λ reach. first_left c pid turns reach (rooms_named (entry c.stream position))) (reached_at c turns position))
+  left_listed c pid turns position _ = tt
+
+  live_listed : (told : Option Cause) (why : Option Reason) (f : Facts) → OfSome in_extra (extra_live told why f)
+  live_listed (Some told) why f = tt
+  live_listed None why f = of_if in_extra (is_outside f && is_unaddressed why) (cause.ExtraLive f.parted.again) refl
+
+  change_listed : (why : Option Reason) (f : Facts) → OfSome in_extra (change_missing why f)
+  change_listed (Some NoCommonRoom) f = of_if in_extra (is_outside f) (cause.JoinMissing f.parted.again) refl
+  change_listed (Some (Excepted room)) f = of_if in_extra (is_outside f) (cause.LeaveMissing f.parted.again) refl
+  change_listed _ f = tt
+
+  extra_by_listed : (c : Cluster) (pid : Text) (turns : List TurnSeen) (behind at_break left : Option Cause) → OfSome in_extra behind → OfSome in_extra at_break → OfSome in_extra left
+      → (due : List ℕ) (why : Option Reason) (f : Facts) → list_all in_extra (extra_by c pid turns behind at_break left due why f) ≡ true
+  extra_by_listed c pid turns behind at_break left is_behind is_at_break is_left due why f =
+      let of_other = other_before_listed due f in
+      let of_end = ended_listed c pid turns why in
+      let of_birth = birth_listed c turns why in
+      let of_live = live_listed (option_or behind left) why f in
+      let of_change = change_listed why f in
+      of_held in_extra
+      (behind ∷ at_break ∷ other_session_before due f ∷ log_ended_early c pid turns why ∷ left
+      ∷ before_birth c turns why ∷ extra_live (option_or behind left) why f ∷ change_missing why f ∷ [])
+      (is_behind, (is_at_break, (of_other, (of_end, (is_left, (of_birth, (of_live, (of_change, tt))))))))
+
+  extra_listed : (s : Case) (f : Facts) (position : ℕ) → list_all in_extra (extra_in s f position) ≡ true
+  extra_listed s f position =
+      let why = why_not_due s.c s.who s.turns position in
+      let turns = map (turn_at s.c) s.seen in
+      extra_by_listed s.c s.who.pid s.seen (node_behind s.c s.seen f) (rooms_at_break s.c s.who s.turns s.stays f) (late_leave s.c s.who.pid turns f.parted.position why)
+      (behind_listed in_extra (λ broke back high low. refl) s.c s.seen f)
+      (rooms_listed in_extra (λ stay after low. refl) s.c s.who s.turns s.stays f)
+      (left_listed s.c s.who.pid turns f.parted.position why)
+      s.due why f
+
+-- ---- DOUBLED
+
+module _ (off : Text) where
+  -- the cause has a name of its list
+  abbrev in_doubled : Cause → Bool
+  in_doubled = is_listed (fault.Doubled off)
+
+  sent_again_listed : (f : Facts) (past : Option ℕ) → OfSome in_doubled (sent_again f past)
+  sent_again_listed f past =
+      of_test in_doubled (λ (replay : Replay). nat_eq f.earlier f.later && is_this past f.parted.position)
+      (λ (replay : Replay). cause.SentAgainAfterReplay f.parted.first f.parted.again replay.low) (λ replay. refl) f.replay
+
+  stale_listed : (f : Facts) → OfSome in_doubled (stale_offset f)
+  stale_listed f = of_test in_doubled (λ after. nat_lt f.earlier f.later && nat_lt after f.parted.position) (cause.StaleOffset f.later) (λ after. refl) f.asked
+
+  body_listed : (c : Cluster) (client : ℕ) (numbers : List ℕ) (f : Facts) → OfSome in_doubled (body_twice c client numbers f)
+  body_listed c client numbers f =
+      of_if in_doubled
+      (nat_lt f.earlier f.later
+      && is_one_body c client (record_of c client numbers f.parted.first) (last_record (places_at c client) None (take f.later numbers)))
+      (cause.BodyCameTwice f.parted.first f.parted.again) refl
+
+  doubled_listed : (s : Case) (f : Facts) → list_all in_doubled (doubled_in s f) ≡ true
+  doubled_listed s f =
+      let of_behind = behind_listed in_doubled (λ broke back high low. refl) s.c s.seen f in
+      let of_sent = sent_again_listed f (first_taken s.stays f) in
+      let of_body = body_listed s.c s.client s.numbers f in
+      let of_live = of_if in_doubled (is_live f) (cause.DoubledLive f.parted.first f.parted.again) refl in
+      of_held in_doubled
+      (node_behind s.c s.seen f ∷ sent_again f (first_taken s.stays f) ∷ stale_offset f
+      ∷ body_twice s.c s.client s.numbers f ∷ doubled_live f ∷ [])
+      (of_behind, (of_sent, (stale_listed f, (of_body, (of_live, tt)))))
+
+-- ---- SWAPPED
+
+module _ (off : Text) where
+  -- the cause has a name of its list
+  abbrev in_swapped : Cause → Bool
+  in_swapped = is_listed (fault.Swapped off)
+
+  swapped_listed : (c : Cluster) (turns : List TurnSeen) (f : Facts) → list_all in_swapped (swapped_causes c turns f) ≡ true
+  swapped_listed c turns f =
+      let of_behind = behind_listed in_swapped (λ broke back high low. refl) c turns f in
+      let of_live = of_if in_swapped (is_live f) (cause.SwappedLive f.parted.first f.parted.again) refl in
+      of_held in_swapped (node_behind c turns f ∷ swapped_live f ∷ []) (of_behind, (of_live, tt))
+
+-- ---- LOST
+
+module _ (off : Text) where
+  -- the cause has a name of its list
+  abbrev in_lost : Cause → Bool
+  in_lost = is_listed (fault.Lost off)
+
+  skipped_listed : (f : Facts) → OfSome in_lost (skipped_in_window f)
+  skipped_listed f =
+      of_test in_lost (λ (replay : Replay). is_replayed replay f.parted.position)
+      (λ (replay : Replay). cause.SkippedInWindow f.later replay.after replay.low) (λ replay. refl) f.replay
+
+  other_after_listed : (due : List ℕ) (f : Facts) → OfSome in_lost (other_session_after due f)
+  other_after_listed due f =
+      of_test in_lost (λ after. nat_le f.parted.position after && not (has_position due after)) (cause.OffsetOfAnotherSession f.later) (λ after. refl) f.asked
+
+  not_recorded_listed : (due : List ℕ) (f : Facts) → OfSome in_lost (frame_not_recorded due f)
+  not_recorded_listed due f =
+      of_test in_lost (λ after. nat_le f.parted.position after && has_position due after) (cause.FrameNotRecorded f.later) (λ after. refl) f.asked
+
+  leave_listed : (turns : List TurnSeen) (rooms : List Text) (f : Facts) → OfSome in_lost (leave_missing_in turns rooms f)
+  leave_listed turns rooms f =
+      of_if in_lost (is_taken_live f && are_leavable (own_room (opened_in turns)) rooms) (cause.LeaveMissing f.parted.again) refl
+
+  lost_listed : (s : Case) (f : Facts) → list_all in_lost (lost_in s f) ≡ true
+  lost_listed s f =
+      let rooms = rooms_named (entry s.c.stream f.parted.position) in
+      let of_rooms = rooms_listed in_lost (λ stay after low. refl) s.c s.who s.turns s.stays f in
+      let of_other = other_after_listed s.due f in
+      let of_frame = not_recorded_listed s.due f in
+      let of_live = of_if in_lost (is_taken_live f) (cause.LostLive f.parted.again) refl in
+      of_held in_lost
+      (rooms_at_break s.c s.who s.turns s.stays f ∷ skipped_in_window f ∷ other_session_after s.due f
+      ∷ frame_not_recorded s.due f ∷ lost_live f ∷ leave_missing_in s.seen rooms f ∷ [])
+      (of_rooms, (skipped_listed f, (of_other, (of_frame, (of_live, (leave_listed s.seen rooms f, tt))))))
+
+-- ---- of a difference, in the list of its fault
+
+pub difference_listed : (s : Case) (difference : Difference) → list_all (is_listed (fault_of s.c.stream difference)) (difference_causes s difference) ≡ true
+difference_listed s (Extra frame position) = extra_listed (offset_at s.c.stream position) s (facts_of s.c.stream s.seen s.stays (Extra frame position)) position
+difference_listed s (Doubled first again position) = doubled_listed (offset_at s.c.stream position) s (facts_of s.c.stream s.seen s.stays (Doubled first again position))
+difference_listed s (Swapped frame due later) =
+    swapped_listed (offset_at s.c.stream due) s.c s.seen (facts_of s.c.stream s.seen s.stays (Swapped frame due later))
+difference_listed s (Lost frame due) = lost_listed (offset_at s.c.stream due) s (facts_of s.c.stream s.seen s.stays (Lost frame due))

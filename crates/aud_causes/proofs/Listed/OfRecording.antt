@@ -1,0 +1,175 @@
+-- The causes of a fault for which a session has no certificate have names of that fault's list.
+use Rattle.std.proofs.Common.{◌≡◌, ℕ, suc, zero, Bool, true, List, [], ◌∷◌, Option, Some, None, ◌||◌, length, nat_eq, nat_le, nat_lt, not, refl, slice_get}
+use Rattle.std.specs.Prelude.{option_to_list}
+use Rattle.std.specs.Cmp.Derive.{both_true}
+use Rattle.std.specs.List.{list_all}
+use Rattle.aud_base.specs.Lists.{numbers_from}
+use Rattle.aud_tap.specs.declared.records.NodeRec.{NodeRec}
+use Rattle.aud_tap.specs.declared.records.NodeRec.TheVariants as rec
+use Rattle.aud_tap.specs.declared.records.StreamRec.{StreamRec}
+use Rattle.aud_node.specs.Cluster.{Cluster, node_log}
+use Rattle.aud_node.specs.Cursors.{cursor_at}
+use Rattle.aud_node.specs.NodeTap.{NodeTap}
+use Rattle.aud_node.specs.NodeTaps.{node_at}
+use Rattle.aud_node.specs.OwnPlaces.{own_places}
+use Rattle.aud_node.specs.OwnRecords.{own_numbers}
+use Rattle.aud_node.specs.Stream.{Text, position}
+use Rattle.aud_client.specs.StaySeen.{StaySeen}
+use Rattle.aud_cert.specs.declared.fault.Fault.TheVariants as fault
+use Rattle.aud_session_facts.specs.declared.marks.TurnMark.{TurnMark}
+use Rattle.aud_session_facts.specs.declared.place.RecordPlace.{RecordPlace}
+use Rattle.aud_causes.specs.declared.cause.Cause.{Cause}
+use Rattle.aud_causes.specs.declared.cause.Cause.TheVariants.{EntriesSkippedByNode, EntryTakenAgain, MissingBreak, NoClientTap, RecoveredTwice, ReplyMissing, TurnNotStored}
+use Rattle.aud_causes.specs.declared.turns.Unbroken.{Unbroken}
+use Rattle.aud_causes.specs.declared.twice.Twice.{Twice}
+use Rattle.aud_causes.specs.Chain.{chain_causes}
+use Rattle.aud_causes.specs.Cleared.{broke_by, cleared_after_break, cleared_at, cleared_by, cleared_in, cleared_on, first_cleared, place_on}
+use Rattle.aud_causes.specs.LastTurn.{is_ended}
+use Rattle.aud_causes.specs.Logs.{first_cause, later_cause, order_cause, record_cause, recoveries, take_cause, taken_again, takes_cause, unknown}
+use Rattle.aud_causes.specs.Names.{client_causes, orphan_from, reply_missing}
+use Rattle.aud_causes.specs.Recorded.{first_own, no_log_cause, opened_by, order_causes}
+use Rattle.aud_causes.specs.Turns.{begins_of, breaks_of, missing_break, missing_breaks, missing_causes, not_tapped, unbroken_at, went_on}
+use Rattle.aud_causes.specs.Differences.{cause_and}
+use Rattle.aud_causes.specs.Twice.{first_twice, recovered_twice, turn_not_stored, twice_causes}
+use Rattle.aud_causes.proofs.Listed.Each.{OfSome, is_listed, of_and, of_both, of_choice, of_each, of_held, of_if, of_list, of_map, of_or, of_then}
+
+-- ---- NOLOG
+
+-- the cause has a name of its list
+abbrev in_no_log : Cause → Bool
+in_no_log = is_listed fault.NoLog
+
+opened_listed : (first : Option RecordPlace) → in_no_log (opened_by first) ≡ true
+opened_listed None = refl
+opened_listed (Some first) = refl
+
+pub no_log_listed : (c : Cluster) (pid : Text) → list_all in_no_log (no_log_cause c pid ∷ []) ≡ true
+no_log_listed c pid = both_true (opened_listed (first_own c pid)) refl
+
+-- ---- CHAIN
+
+-- the cause has a name of its list
+abbrev in_chain : Cause → Bool
+in_chain = is_listed fault.Chain
+
+not_tapped_listed : (turn : ℕ) (begins : List (Option RecordPlace)) → OfSome in_chain (not_tapped turn begins)
+not_tapped_listed turn [] = tt
+not_tapped_listed turn (None ∷ begins) = refl
+not_tapped_listed turn (Some begin ∷ begins) = not_tapped_listed (suc turn) begins
+
+went_on_listed : (came : List ℕ) (u : Unbroken) → OfSome in_chain (went_on came u)
+went_on_listed came u = of_map in_chain (MissingBreak u.turn u.begin u.back) (λ stay. refl) (slice_get came u.turn)
+
+missing_listed : (begins : List (Option RecordPlace)) (broken : List Bool) (came : List ℕ)
+    → list_all in_chain (missing_causes begins broken came) ≡ true
+missing_listed begins broken came =
+    of_both in_chain (option_to_list (not_tapped 0 begins)) (missing_breaks begins broken came)
+    (of_list in_chain (not_tapped 0 begins) (not_tapped_listed 0 begins))
+    (of_each in_chain (λ turn. option_to_list (missing_break begins broken came turn))
+    (λ turn.
+    of_list in_chain (missing_break begins broken came turn)
+    (of_then in_chain (went_on came) (went_on_listed came) (unbroken_at begins broken turn)))
+    (numbers_from 0 (length begins)))
+
+cleared_by_listed : (broke place : RecordPlace) (r : Option NodeRec) → OfSome in_chain (cleared_by broke place r)
+cleared_by_listed broke place (Some (rec.Leave pid room)) = refl
+cleared_by_listed broke place (Some (rec.Gone pid)) = refl
+cleared_by_listed broke place _ = tt
+
+first_cleared_listed : (log : List NodeRec) (node : ℕ) (broke : Option RecordPlace) (numbers : List ℕ) → OfSome in_chain (first_cleared log node broke numbers)
+first_cleared_listed log node broke [] = tt
+first_cleared_listed log node broke (number ∷ numbers) =
+    let place = place_on node number in
+    let r = slice_get log number in
+    of_or in_chain (cleared_at place r broke) (first_cleared log node (broke_by place r broke) numbers)
+    (of_then in_chain (λ (b : RecordPlace). cleared_by b place r) (λ b. cleared_by_listed b place r) broke)
+    (first_cleared_listed log node (broke_by place r broke) numbers)
+
+cleared_listed : (c : Cluster) (pid : Text) (nodes : List ℕ) → OfSome in_chain (cleared_in c pid nodes)
+cleared_listed c pid [] = tt
+cleared_listed c pid (node ∷ nodes) =
+    of_or in_chain (cleared_on c pid node) (cleared_in c pid nodes)
+    (of_then in_chain (λ (tap : NodeTap). first_cleared tap.recs node None (own_numbers tap.recs pid))
+    (λ tap. first_cleared_listed tap.recs node None (own_numbers tap.recs pid))
+    (node_at c node))
+    (cleared_listed c pid nodes)
+
+twice_listed : (marks : List TurnMark) (twice : Option Twice) → list_all in_chain (twice_causes marks twice) ≡ true
+twice_listed marks None = refl
+twice_listed marks (Some t) =
+    of_and in_chain (turn_not_stored marks t) (cause_and (recovered_twice t) [])
+    (of_if in_chain (is_ended marks t.first || is_ended marks t.again) (TurnNotStored t.turn t.first t.again) refl)
+    (of_and in_chain (recovered_twice t) []
+    (of_if in_chain (not (nat_eq t.first.node t.again.node)) (RecoveredTwice t.turn t.first t.again) refl)
+    refl)
+
+pub chain_listed : (c : Cluster) (pid : Text) (marks : List TurnMark) (stays : List StaySeen) → list_all in_chain (chain_causes c pid marks stays) ≡ true
+chain_listed c pid marks stays =
+    let twice = twice_causes marks (first_twice (begins_of marks) marks) in
+    of_both in_chain
+    (missing_causes (begins_of marks) (breaks_of marks) (recoveries stays))
+    (cause_and (cleared_after_break c pid) twice)
+    (missing_listed (begins_of marks) (breaks_of marks) (recoveries stays))
+    (of_and in_chain (cleared_after_break c pid) twice
+    (cleared_listed c pid (own_places c pid))
+    (twice_listed marks (first_twice (begins_of marks) marks)))
+
+-- ---- ORDER
+
+-- the cause has a name of its list
+abbrev in_order : Cause → Bool
+in_order = is_listed fault.Order
+
+taken_again_listed : (place : RecordPlace) (cursor p : ℕ) → OfSome in_order (taken_again place cursor p)
+taken_again_listed place cursor p = of_choice in_order (nat_le p cursor) (Some (EntryTakenAgain place cursor p)) None refl tt
+
+take_listed : (place : RecordPlace) (cursor : ℕ) (p : Option ℕ) → OfSome in_order (take_cause place cursor p)
+take_listed place cursor None = refl
+take_listed place cursor (Some p) =
+    of_choice in_order (nat_lt (suc cursor) p) (Some (EntriesSkippedByNode place cursor p)) (taken_again place cursor p) refl (taken_again_listed place cursor p)
+
+takes_listed : (place : RecordPlace) (cursor : ℕ) (p : Option ℕ) → OfSome in_order (takes_cause place cursor p)
+takes_listed place cursor None = refl
+takes_listed place cursor (Some p) = taken_again_listed place cursor p
+
+unknown_listed : (place : RecordPlace) (p : Option ℕ) → OfSome in_order (unknown place p)
+unknown_listed place None = refl
+unknown_listed place (Some p) = tt
+
+first_listed : (stream : List StreamRec) (place : RecordPlace) (r : NodeRec) → OfSome in_order (first_cause stream place r)
+first_listed stream place (rec.Start off) =
+    of_then in_order (λ o. unknown place (position stream o)) (λ o. unknown_listed place (position stream o)) off
+first_listed stream place _ = refl
+
+later_listed : (stream : List StreamRec) (place : RecordPlace) (cursor : ℕ) (r : NodeRec) → OfSome in_order (later_cause stream place cursor r)
+later_listed stream place cursor (rec.Start off) = refl
+later_listed stream place cursor (rec.Take off) = take_listed place cursor (position stream off)
+later_listed stream place cursor (rec.Takes off) = takes_listed place cursor (position stream off)
+later_listed stream place cursor _ = tt
+
+record_listed : (stream : List StreamRec) (place : RecordPlace) (cursor : ℕ) (r : NodeRec) → OfSome in_order (record_cause stream place cursor r)
+record_listed stream place cursor r =
+    of_choice in_order (nat_eq place.number 0) (first_cause stream place r) (later_cause stream place cursor r)
+    (first_listed stream place r) (later_listed stream place cursor r)
+
+pub order_listed : (c : Cluster) (unordered : List RecordPlace) → list_all in_order (order_causes c unordered) ≡ true
+order_listed c unordered =
+    of_each in_order (λ place. option_to_list (order_cause c place))
+    (λ place.
+    let cursor = cursor_at c.stream (node_log c place.node) place.number in
+    of_list in_order (order_cause c place)
+    (of_then in_order (record_cause c.stream place cursor) (record_listed c.stream place cursor) (slice_get (node_log c place.node) place.number)))
+    unordered
+
+-- ---- CLIENT
+
+-- the cause has a name of its list
+abbrev in_client : Cause → Bool
+in_client = is_listed fault.Client
+
+pub client_listed : (c : Cluster) (count : ℕ) → list_all in_client (client_causes c count) ≡ true
+client_listed c zero =
+    of_held in_client (Some NoClientTap ∷ reply_missing c ∷ [])
+    (refl, (of_map in_client ReplyMissing (λ client. refl) (orphan_from c 0 c.taps), tt))
+client_listed c (suc zero) = refl
+client_listed c (suc (suc more)) = refl

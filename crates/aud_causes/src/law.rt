@@ -1,0 +1,32 @@
+//! What is told of a fault, and the list of causes that such a fault can have.
+ghost use Rattle.std.specs.Prelude.{◌≡◌, ℕ, Bool, true, List, Option, IfSome};
+ghost use Rattle.aud_node.specs.Cluster.{Cluster};
+ghost use Rattle.aud_node.specs.Stream.{Text};
+ghost use Rattle.aud_cert.specs.declared.fault.Fault.{Fault};
+ghost use Rattle.aud_verdict.specs.declared.verdict.Verdict.TheVariants.{No};
+ghost use Rattle.aud_verdict.specs.Verdict.{IsVerdict};
+ghost use Rattle.aud_input.specs.TapLines.{TapLines};
+ghost use Rattle.aud_session_facts.specs.declared.account.Account.{Account};
+ghost use Rattle.aud_session_facts.specs.Account.{IsAccountOf};
+ghost use Rattle.aud_causes.specs.declared.causes.Noted.{Noted};
+ghost use Rattle.aud_causes.specs.declared.found.CauseFound.{CauseFound};
+ghost use Rattle.aud_causes.specs.Candidates.{are_candidates};
+ghost use Rattle.aud_causes.specs.Causes.{AreToldCauses};
+
+use aud_session_facts::verdict_is_found;
+
+/// Each cause that is told of the fault of a session has a name of that fault's list: a law of
+/// [`causes_of`](crate::causes_of). So these names and the [`refuted`](crate::refuted) ones are together that list; and
+/// of a tail, whose list is empty, nothing is told.
+///
+/// The verdict on the session is no for this fault, and the account is the session's, if it has one: that names what was
+/// found, and so does the fault.
+pub fn told_causes_are_candidates()
+    ensures { (c : Cluster) (lines : List TapLines) (client : Option ℕ) (whole : Bool) (pid : Text)
+        (noted : Noted) (account : Option Account) (fault : Fault) (causes : List CauseFound)
+        → IsVerdict c whole pid (No fault) → IfSome account (IsAccountOf c pid)
+        → AreToldCauses c lines client pid noted account fault causes
+        → are_candidates fault causes ≡ true }
+{
+    verdict_is_found();
+}
