@@ -7,3 +7,4 @@ pub mod MadeOther
 pub mod InParts
 pub mod LinesInFiles
 pub mod FaultRow
+pub mod InSummary

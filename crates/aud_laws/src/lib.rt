@@ -16,6 +16,7 @@
 //! - [`places`]: in which of several files a line stands.
 //! - [`certified`]: what is proved is accepted: the text of a certificate that was made is read as that certificate.
 //! - [`fault_rows`]: the record at which a fault shows is among the rows that `explain` writes of it.
+//! - [`summary`]: each cause has a name of the table by which a summary counts causes.
 //! - [`rewritten`]: taps that were read keep to all that a bundle's taps keep to, and upgraded ones too (`AreOfABundle`
 //! of
 //!   `aud_writer`'s `specs/OfABundle.antt`).
@@ -71,6 +72,7 @@ mod parts;
 mod places;
 mod recovery;
 mod rewritten;
+mod summary;
 
 pub use certified::{made_is_read_back, made_is_sound, proved_is_accepted};
 pub use fault_rows::{fault_has_its_row, records_have_kept_lines};
@@ -89,3 +91,4 @@ pub use parts::{
 pub use places::lines_stand_where_told;
 pub use recovery::{recovery_is_accepted, run_with_recovery};
 pub use rewritten::{read_taps_are_of_a_bundle, upgraded_taps_are_of_a_bundle};
+pub use summary::causes_are_in_summary;
