@@ -112,8 +112,8 @@ fn hash_of(name: &[u8]) -> u32 {
 /// The first and the last eight bytes, mixed: each counts for the upper half of the number.
 fn mixed_ends(bytes: &[u8]) -> u64 {
     let (first, last) = ends(bytes);
-    let word = first.rotate_left(23).wrapping_add(last);
-    (word ^ (word >> 32)).wrapping_mul(0x9e37_79b9_7f4a_7c15)
+    let word = first.wrapping_mul(0x9e37_79b9_7f4a_7c15) ^ last;
+    (word ^ (word >> 32)).wrapping_mul(0xd6e8_feb8_6659_fd93)
 }
 
 /// The first and the last eight bytes as numbers, or those of fewer bytes.
