@@ -1,6 +1,6 @@
 //! What the other crates share: texts and lists, also long ones in pages, that contracts see as plain lists; texts that
-//! are kept once; the places of texts; reading in steps; work on several threads; streams whose calls are counted;
-//! lemmas on lists.
+//! are kept once; the places of texts, and guesses at places; reading in steps; work on several threads; streams whose
+//! calls are counted; lemmas on lists.
 //!
 //! Begin at [`Text`] and [`Listed`].
 //!
@@ -39,8 +39,9 @@
 //! ```
 #![tactic(auto)]
 
-mod ending;
+mod hints;
 mod listed;
+mod mixed;
 mod paged;
 mod parallel;
 mod places;
@@ -52,8 +53,9 @@ mod text;
 mod version;
 mod watched;
 
-pub use ending::mixed_ending;
+pub use hints::Hints;
 pub use listed::{Blobs, Bytes, Listed, Texts};
+pub use mixed::{mixed_ending, mixed_name};
 pub use paged::Paged;
 pub use parallel::{make_room, numbers_to, try_map};
 pub use places::Places;

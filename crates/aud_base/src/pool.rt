@@ -2,7 +2,7 @@
 ghost use Rattle.std.specs.Prelude.{◌≡◌, IfOk};
 
 use crate::Text;
-use crate::ending::mixed_ending;
+use crate::mixed::mixed_ending;
 use std::alloc::{AllocError, Global};
 use std::hash::{BuildHasher, Hasher, RandomState};
 use std::mem::replace;

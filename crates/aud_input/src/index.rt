@@ -7,7 +7,8 @@ ghost use Rattle.aud_input.specs.Private.Kept.{KeepsPlaces, place_in, so_far};
 
 use crate::name::name_of;
 use crate::tap_lines::{RecordLines, TapLines};
-use aud_reader::{LentLine, NameHints};
+use aud_base::{Hints, mixed_name};
+use aud_reader::LentLine;
 use std::alloc::{AllocError, Global};
 use std::collections::HashMap;
 use std::hash::RandomState;
@@ -22,7 +23,7 @@ pub struct LineIndex {
     alloc: Global,
     taps: Vec<TapLines>,
     places: HashMap<String, usize, RandomState>,
-    hints: NameHints,
+    hints: Hints,
     lines: u64,
 }
 
@@ -36,7 +37,7 @@ impl LineIndex {
             alloc,
             taps: Vec::new(alloc),
             places: HashMap::with_hasher(alloc, keys),
-            hints: NameHints::new(alloc),
+            hints: Hints::new(alloc),
             lines: 0,
         }
     }
@@ -59,7 +60,7 @@ impl LineIndex {
         let key = String::from_str(self.alloc, name)?;
         let place = self.taps.len();
         self.places.insert(key, place)?;
-        self.hints.note(name.as_bytes(), place)?;
+        self.hints.note(mixed_name(name.as_bytes()), place)?;
         let tap = TapLines::new(self.alloc, name, number)?;
         self.taps.push(tap)?;
         Ok(())
@@ -70,7 +71,7 @@ impl LineIndex {
         requires { KeepsPlaces self.now }
         ensures { result ≡ place_in self.now.taps.items name.now }
     {
-        let guess = self.hints.get(name.as_bytes()).unwrap_or(0);
+        let guess = self.hints.get(mixed_name(name.as_bytes())).unwrap_or(0);
         match self.taps.get(guess) {
             Some(tap) if tap.is_named(name) => Some(guess),
             _ => self.places.get(name).copied(),

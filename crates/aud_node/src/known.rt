@@ -6,9 +6,9 @@ ghost use Rattle.aud_node.specs.Recoverable.{is_recoverable};
 ghost use Rattle.aud_node.specs.Stream.{Text};
 ghost use Rattle.aud_node.specs.Private.KnownIndex.{ending, spells_its_offset};
 
-use crate::hints::Hints;
 use crate::offsets::Offsets;
 use crate::rest::Rest;
+use aud_base::{Hints, mixed_ending};
 use aud_tap::{Event, StreamRec};
 use std::alloc::{AllocError, Global};
 use std::collections::HashMap;
@@ -54,10 +54,10 @@ impl<'a> KnownTexts<'a> {
         let mut known = KnownTexts {
             entries: HashMap::with_hasher(alloc, keys),
         };
-        let mut hints = Hints::new(alloc, entries.len())?;
+        let mut hints = Hints::with_room(alloc, entries.len())?;
         for i in (0..entries.len()).rev() {
             let entry = entries.at(i);
-            hints.mark(entry, i);
+            note_hint(&mut hints, entry, i)?;
             if offsets.distinct() && spells_its_offset(entry) {
                 continue;
             }
@@ -96,6 +96,19 @@ impl<'a> KnownTexts<'a> {
             self.entries.insert(event.text.as_str(), index)?;
         }
         Ok(())
+    }
+}
+
+/// By what the event of a text is guessed: the 16 bytes before its closing quote and bracket, its offset mostly.
+pub fn hint_of(text: &str) -> u64 {
+    mixed_ending(text, 2, 0)
+}
+
+/// The entry stands at this index, before all those noted so far.
+fn note_hint(hints: &mut Hints, entry: &StreamRec, index: usize) -> Result<(), AllocError> {
+    match entry {
+        StreamRec::Ev(event) => hints.note(hint_of(event.text.as_str()), index),
+        StreamRec::Other { .. } => Ok(()),
     }
 }
 

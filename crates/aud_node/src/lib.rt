@@ -22,7 +22,6 @@ mod addressees;
 mod by_name;
 mod cursors;
 mod fields;
-mod hints;
 mod known;
 mod logs;
 mod node_log;

@@ -12,10 +12,10 @@ ghost use Rattle.aud_tap.specs.declared.records.StreamRec.TheVariants.{Ev};
 
 use crate::addressees::Addressees;
 use crate::fields::offset;
-use crate::hints::Hints;
-use crate::known::{KnownEvent, KnownTexts, ending, is_sent_as};
+use crate::known::{KnownEvent, KnownTexts, ending, hint_of, is_sent_as};
 use crate::offsets::Offsets;
 use crate::rest::Rest;
+use aud_base::Hints;
 use aud_tap::StreamRec;
 use std::alloc::{AllocError, Global};
 use std::hash::RandomState;
@@ -110,7 +110,7 @@ impl<'a> Stream<'a> {
     /// [`known`](Stream::known). A guess reads a few bytes that stand far from others: who has many texts asks for
     /// the guesses of all before the first of them is used, so that their bytes are fetched side by side.
     pub fn guess(&self, text: &str) -> Option<usize> {
-        self.hints.get(text)
+        self.hints.get(hint_of(text))
     }
 
     /// The first event of this text that a server sends again after a recovery, and that has no attachments; none where

@@ -1,7 +1,6 @@
 //! The taps of the lines.
 mod client_log;
 mod counts;
-mod name_hints;
 mod node_log;
 mod offsets;
 mod open_tap;
@@ -28,7 +27,6 @@ use crate::lines::Lines;
 use aud_base::TextPool;
 use aud_json::Scratch;
 use aud_tap::Taps;
-pub use name_hints::NameHints;
 use open_taps::OpenTaps;
 use own_records::{OwnRecord, own_records_of, parts_of};
 use packed::PackedRec;

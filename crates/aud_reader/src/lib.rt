@@ -27,7 +27,7 @@ mod lines;
 mod read;
 mod splitter;
 
-pub use bundle::{BundleReader, NameHints, read_bundle};
+pub use bundle::{BundleReader, read_bundle};
 pub use fault::{InputCode, ReadFault};
 pub use law::lines_in_any_pieces;
 pub use line::{LentLine, Line};

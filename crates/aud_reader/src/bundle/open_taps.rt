@@ -9,7 +9,6 @@ ghost use Rattle.aud_reader.specs.Record.{line_record};
 ghost use Rattle.aud_reader.specs.Bundle.{no_records, with_header, with_line, with_named, with_value};
 
 use super::counts::Counts;
-use super::name_hints::NameHints;
 use super::open_tap::OpenTap;
 use super::packed::PackedRec;
 use crate::fault::{HEADER_TWICE, InputCode, LineFault};
@@ -17,7 +16,7 @@ use crate::read::header::tap_header;
 use crate::read::line::{json, opened_line};
 use crate::read::record::kind_of;
 use crate::read::tap_name::cut_at_blank;
-use aud_base::TextPool;
+use aud_base::{Hints, TextPool, mixed_name};
 use aud_json::{Fields, Scratch};
 use aud_tap::limits::MAX_LINE;
 use aud_tap::{TapKind, Taps, Text, Version};
@@ -35,7 +34,7 @@ pub struct OpenTaps {
     keys: RandomState,
     taps: Vec<OpenTap>,
     places: HashMap<String, usize, RandomState>,
-    hints: NameHints,
+    hints: Hints,
     pids: HashSet<Text, RandomState>,
     counts: Counts,
 }
@@ -56,7 +55,7 @@ impl OpenTaps {
             keys,
             taps: Vec::new(alloc),
             places: HashMap::with_hasher(alloc, keys),
-            hints: NameHints::new(alloc),
+            hints: Hints::new(alloc),
             pids: HashSet::with_hasher(alloc, keys),
             counts: Counts::new(),
         }
@@ -78,7 +77,7 @@ impl OpenTaps {
         } }
     {
         let place = self.taps.len();
-        self.hints.note(name.as_bytes(), place)?;
+        self.hints.note(mixed_name(name.as_bytes()), place)?;
         let key = String::from_str(self.alloc, name)?;
         self.places.insert(key, place)?;
         let name = Text::new(self.alloc, name)?;
@@ -162,7 +161,7 @@ impl OpenTaps {
         requires { KeepsTaps self.now }
         ensures { IfSome result (λ place. place_of (taps_so_far self.now) name.now ≡ Some place) }
     {
-        let place = self.hints.get(name)?;
+        let place = self.hints.get(mixed_name(name))?;
         let tap = self.taps.get(place)?;
         if !tap.is_named(name) {
             return None;

@@ -1,6 +1,6 @@
 //! The names of taps, by themselves and before a line's first blank, and the pids and sids of sessions.
+use aud_base::{Hints, mixed_name};
 use aud_input::{first_bytes, name_of};
-use aud_reader::NameHints;
 use aud_tap::{is_session_id, is_tap_name};
 use std::test::Fail;
 
@@ -63,12 +63,15 @@ static GUESSED: [&str; 5] = [
 
 #[test]
 fn guessed_names(rt: HostRuntime) -> Result<(), Fail> {
-    let mut hints = NameHints::new(rt.alloc());
+    let mut hints = Hints::new(rt.alloc());
     for (place, name) in GUESSED.iter().enumerate() {
-        hints.note(name.as_bytes(), place)?;
+        hints.note(mixed_name(name.as_bytes()), place)?;
     }
     for (place, name) in GUESSED.iter().enumerate() {
-        assert!(rt; hints.get(name.as_bytes()) == Some(place), "{name}");
+        assert!(rt;
+            hints.get(mixed_name(name.as_bytes())) == Some(place),
+            "{name}"
+        );
     }
     Ok(())
 }
