@@ -11,7 +11,6 @@ ghost use Rattle.aud_node.specs.TurnRecords.{pid_of};
 ghost use Rattle.aud_node.specs.Names.{place_of};
 ghost use Rattle.aud_node.specs.Private.NodePids.{log_names, log_pids, places_naming};
 
-use crate::fields::pid;
 use crate::node_log::NodeLog;
 use aud_base::Places;
 use aud_tap::{NodeRec, NodeRecs, Tap};
@@ -55,8 +54,8 @@ fn note_record(places: &mut Places, place: usize, rec: &NodeRec) -> Result<(), A
     ensures pids { OnOk result (texts_of places.new
         ≡ with_texts (texts_of places.old) (option_to_list (pid_of rec.now))) }
 {
-    match pid(rec) {
-        Some(pid) => places.note(place, pid),
+    match rec.pid() {
+        Some(pid) => places.note(place, pid.as_str()),
         None => Ok(()),
     }
 }

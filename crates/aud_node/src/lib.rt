@@ -21,7 +21,6 @@
 mod addressees;
 mod by_name;
 mod cursors;
-mod fields;
 mod known;
 mod logs;
 mod node_log;

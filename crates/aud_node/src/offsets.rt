@@ -4,7 +4,6 @@ ghost use Rattle.std.specs.Str.{bytes_eq};
 ghost use Rattle.aud_node.specs.Stream.{Text};
 ghost use Rattle.aud_node.specs.Private.OffsetIndex.{kept_position, HoldsOffsets};
 
-use crate::fields::offset;
 use crate::rest::Rest;
 use aud_tap::StreamRec;
 use std::alloc::{AllocError, Global};
@@ -33,7 +32,7 @@ impl<'a> Offsets<'a> {
             distinct: true,
         };
         for i in (0..entries.len()).rev() {
-            offsets.mark(offset(entries.at(i)), i as u64 + 1)?;
+            offsets.mark(entries.at(i).offset().as_str(), i as u64 + 1)?;
         }
         Ok(offsets)
     }

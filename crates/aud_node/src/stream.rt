@@ -11,7 +11,6 @@ ghost use Rattle.aud_node.specs.Private.KnownIndex.{found_by_offset};
 ghost use Rattle.aud_tap.specs.declared.records.StreamRec.TheVariants.{Ev};
 
 use crate::addressees::Addressees;
-use crate::fields::offset;
 use crate::known::{KnownEvent, KnownTexts, ending, hint_of, is_sent_as};
 use crate::offsets::Offsets;
 use crate::rest::Rest;
@@ -212,7 +211,7 @@ impl<'a> Stream<'a> {
         let Some(entry) = self.entries.get(cursor as usize) else {
             return None;
         };
-        if offset(entry) != off {
+        if entry.offset().as_str() != off {
             return None;
         }
         if self.offsets.distinct() {

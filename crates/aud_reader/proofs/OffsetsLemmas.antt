@@ -4,7 +4,7 @@ use Rattle.std.specs.List.{list_any}
 use Rattle.std.proofs.Math.Bool.{or-false}
 use Rattle.aud_base.proofs.SameText.{same_text}
 use Rattle.aud_tap.specs.Forms.{is_text}
-use Rattle.aud_reader.specs.Private.Offsets.{rank}
+use Rattle.aud_tap.specs.Rank.{rank}
 use Rattle.aud_reader.proofs.TextsLemmas.{any-push}
 
 -- an offset of a greater rank than all others is put in: none has a greater one than it

@@ -2,7 +2,6 @@
 ghost use Rattle.std.specs.Prelude.{◌≡◌, ◌-◌, IfOk, OnOk};
 ghost use Rattle.aud_sim.specs.Acts.{emitted, lines_taken, node_taken, taken, took_and_sent, connected, recovered, volatile_sent, joined, parted, cut, finished, injected_in, awaited, after};
 ghost use Rattle.aud_sim.specs.Cluster.{seen};
-ghost use Rattle.aud_tap.specs.RecordFields.{offset_of};
 
 use crate::act::Act;
 use crate::bundle::{Bundle, LogFault};
@@ -13,7 +12,6 @@ use crate::entry::{Entry, event};
 use crate::node::Node;
 use crate::recovery::recover_on;
 use crate::sessions::{self, open_on};
-use crate::texts::copied;
 use aud_tap::{Bytes, NodeRec, Rec, StreamRec, Text};
 use std::alloc::{AllocError, Global};
 
@@ -48,15 +46,6 @@ fn emit(
     Ok(())
 }
 
-fn offset_of(alloc: Global, entry: &StreamRec) -> Result<Text, AllocError>
-    ensures { IfOk result (λ off. off ≡ offset_of entry.now) }
-{
-    match entry {
-        StreamRec::Ev(event) => copied(alloc, event.off.as_str()),
-        StreamRec::Other { off } => copied(alloc, off.as_str()),
-    }
-}
-
 /// A node takes its next entry, if there is one.
 fn take_next(
     alloc: Global,
@@ -69,7 +58,7 @@ fn take_next(
 {
     match entries.get(node.cursor) {
         Some(entry) => {
-            let off = offset_of(alloc, &entry.event)?;
+            let off = entry.event.offset().share()?;
             bundle.node(node.name.as_str(), NodeRec::Take { off })?;
             node.cursor += 1;
             Ok(())

@@ -18,10 +18,12 @@
 
 mod forms;
 pub mod limits;
+mod ranks;
 mod records;
 mod taps;
 
 pub use aud_base::{Blobs, Bytes, Text, Texts};
 pub use forms::{is_id, is_namespace, is_session_id, is_tap_name};
+pub use ranks::rank;
 pub use records::{ClientRec, Event, NodeRec, Rec, StreamRec, TapKind, Version};
 pub use taps::{ClientRecs, NodeRecs, Records, StreamRecs, Tap, Taps};

@@ -1,5 +1,9 @@
 //! The records of each kind of tap. docs/FORMAT.md has the forms and the limits of their fields, which a reader has
 //! looked at; a record that is built by hand may have others.
+ghost use Rattle.std.specs.Prelude.{◌≡◌};
+ghost use Rattle.std.specs.Option.{option_copied};
+ghost use Rattle.aud_tap.specs.RecordFields.{offset_of, pid_of};
+
 use aud_base::{Blobs, Bytes, Text, Texts};
 
 /// What a tap was put on.
@@ -47,6 +51,18 @@ pub enum StreamRec {
     Other { off: Text },
 }
 
+impl StreamRec {
+    /// The offset of the entry.
+    pub fn offset(&self) -> &Text
+        ensures { result.now ≡ offset_of self.now }
+    {
+        match self {
+            StreamRec::Ev(event) => &event.off,
+            StreamRec::Other { off } => off,
+        }
+    }
+}
+
 /// A record of a node's tap.
 #[derive(Drop)]
 pub enum NodeRec {
@@ -68,6 +84,23 @@ pub enum NodeRec {
     Back { pid: Text, turn: u16 },
     /// The session is over.
     Gone { pid: Text },
+}
+
+impl NodeRec {
+    /// The pid that the record names, if it names one.
+    pub fn pid(&self) -> Option<&Text>
+        ensures { option_copied result ≡ pid_of self.now }
+    {
+        match self {
+            NodeRec::Start { .. } | NodeRec::Take { .. } | NodeRec::Takes { .. } => None,
+            NodeRec::Opened { pid, .. }
+            | NodeRec::Join { pid, .. }
+            | NodeRec::Leave { pid, .. }
+            | NodeRec::Broke { pid, .. }
+            | NodeRec::Back { pid, .. }
+            | NodeRec::Gone { pid } => Some(pid),
+        }
+    }
 }
 
 /// A record of a client's tap.

@@ -10,7 +10,7 @@ ghost use Rattle.aud_parts.specs.Private.OwnRecords.{has, is_for};
 use crate::marks::marks_of;
 use crate::part::audience::Audience;
 use aud_node::Stream;
-use aud_tap::{StreamRec, StreamRecs, Text};
+use aud_tap::{StreamRec, StreamRecs};
 use aud_upgrade::copied_entry;
 use std::alloc::{AllocError, Global};
 
@@ -63,15 +63,6 @@ fn entry_left(alloc: Global, kept: bool, entry: &StreamRec) -> Result<StreamRec,
     if kept {
         return copied_entry(alloc, entry);
     }
-    let off = offset_of(entry).share()?;
+    let off = entry.offset().share()?;
     Ok(StreamRec::Other { off })
-}
-
-fn offset_of(entry: &StreamRec) -> &Text
-    ensures { result.now ≡ offset_of entry.now }
-{
-    match entry {
-        StreamRec::Ev(event) => &event.off,
-        StreamRec::Other { off } => off,
-    }
 }

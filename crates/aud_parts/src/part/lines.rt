@@ -10,7 +10,6 @@ ghost use Rattle.aud_upgrade.specs.Upgraded.{upgraded_log};
 ghost use Rattle.aud_parts.specs.ServerLines.{AreLeft, HasLinesOf, NamesLines, own_records, place_named, places_left, record_places};
 ghost use Rattle.aud_parts.specs.Private.FoundRecords.{comes_from, comes_next, taken};
 
-use crate::part::own_records::pid_of;
 use aud_input::LineRuns;
 use aud_tap::{NodeRec, NodeRecs, Records, Tap, Text};
 use std::alloc::{AllocError, Global};
@@ -36,7 +35,7 @@ fn taken(rec: &NodeRec) -> Option<&Text>
 fn comes_from(part: &NodeRec, rec: &NodeRec) -> bool
     ensures { result ≡ comes_from part.now rec.now }
 {
-    taken(part) == taken(rec) && pid_of(part) == pid_of(rec)
+    taken(part) == taken(rec) && part.pid() == rec.pid()
 }
 
 /// Whether the part's record with this number can, if there is one.

@@ -1,7 +1,6 @@
 //! The records of the sessions of a part.
-ghost use Rattle.std.specs.Prelude.{◌≡◌, ◌∷◌, ◌++◌, [], IfOk, OnOk, option_map, filter, if◌then◌else◌};
+ghost use Rattle.std.specs.Prelude.{◌≡◌, ◌∷◌, ◌++◌, [], IfOk, OnOk, filter, if◌then◌else◌};
 ghost use Rattle.std.specs.List.{list_any};
-ghost use Rattle.aud_tap.specs.RecordFields.{pid_of};
 ghost use Rattle.aud_parts.specs.LeftOut.{keeps_record};
 ghost use Rattle.aud_parts.specs.Private.OwnRecords.{has, names_kept};
 
@@ -10,26 +9,11 @@ use aud_tap::{NodeRec, NodeRecs, Text};
 use aud_upgrade::copied_record;
 use std::alloc::{AllocError, Global};
 
-/// The pid that the record names.
-pub fn pid_of(rec: &NodeRec) -> Option<&Text>
-    ensures { option_map (λ pid. pid.now) result ≡ pid_of rec.now }
-{
-    match rec {
-        NodeRec::Start { .. } | NodeRec::Take { .. } | NodeRec::Takes { .. } => None,
-        NodeRec::Opened { pid, .. }
-        | NodeRec::Join { pid, .. }
-        | NodeRec::Leave { pid, .. }
-        | NodeRec::Broke { pid, .. }
-        | NodeRec::Back { pid, .. }
-        | NodeRec::Gone { pid } => Some(pid),
-    }
-}
-
 /// Whether the record names one of these sessions.
 pub fn names_own(own: &TextSet, rec: &NodeRec) -> bool
     ensures { result ≡ names_kept (has own.now) rec.now }
 {
-    match pid_of(rec) {
+    match rec.pid() {
         Some(pid) => own.contains(pid),
         None => false,
     }
@@ -51,7 +35,7 @@ pub fn tell_of_own(own: &TextSet, recs: &NodeRecs) -> bool
 fn keeps_record(own: &TextSet, rec: &NodeRec) -> bool
     ensures { result ≡ keeps_record (has own.now) rec.now }
 {
-    match pid_of(rec) {
+    match rec.pid() {
         Some(pid) => own.contains(pid),
         None => true,
     }

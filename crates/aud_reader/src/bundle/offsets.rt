@@ -6,58 +6,16 @@ ghost use Rattle.aud_tap.specs.Forms.{is_text};
 ghost use Rattle.aud_tap.specs.RecordFields.{offset_of};
 ghost use Rattle.aud_reader.specs.declared.fault.InputCode.TheVariants.{OffsetTwice};
 ghost use Rattle.aud_reader.specs.Steps.{Gives};
-ghost use Rattle.aud_reader.specs.Private.Offsets.{HoldsOffsets, after_byte, number_of, rank};
+ghost use Rattle.aud_reader.specs.Private.Offsets.{HoldsOffsets};
 ghost use Rattle.aud_reader.specs.Private.Texts.{HasTexts};
 
 use crate::fault::{InputCode, LineFault};
-use aud_tap::{StreamRec, StreamRecs, Text};
+use aud_tap::{StreamRecs, Text, rank};
 use std::alloc::{AllocError, Global};
 use std::collections::HashSet;
 use std::hash::RandomState;
 
 const OFFSET_TWICE: LineFault = LineFault::Code(InputCode::OffsetTwice);
-
-/// The offset of an entry.
-pub fn offset_of(entry: &StreamRec) -> &Text
-    ensures { result.now ≡ offset_of entry.now }
-{
-    match entry {
-        StreamRec::Ev(event) => &event.off,
-        StreamRec::Other { off } => off,
-    }
-}
-
-/// The two numbers after one byte more.
-fn after_byte(numbers: (u64, u64), byte: u8) -> (u64, u64)
-    ensures { result ≡ after_byte numbers byte }
-{
-    let (high, low) = numbers;
-    if byte == b'-' {
-        return (low, 0);
-    }
-    (
-        high,
-        low.wrapping_mul(10).wrapping_add(u64::from(byte % 16)),
-    )
-}
-
-/// The rank of a text: texts of different ranks are different. A server's offsets ascend by it.
-fn rank(text: &str) -> u128
-    ensures { result ≡ rank text.now }
-{
-    let mut numbers = (0, 0);
-    for byte in text.as_bytes() {
-        numbers = after_byte(numbers, *byte);
-    }
-    number_of(numbers.0, numbers.1)
-}
-
-/// The two numbers as one, of which the first counts more.
-fn number_of(high: u64, low: u64) -> u128
-    ensures { result ≡ number_of (high, low) }
-{
-    u128::from(high) * 18_446_744_073_709_551_616 + u128::from(low)
-}
 
 /// Adds an offset, unless it is there already.
 fn add_offset(offsets: &mut HashSet<Text, RandomState>, off: &Text) -> Result<(), LineFault>
@@ -87,7 +45,7 @@ fn offsets_of(
         let Some(entry) = entries.get(i) else {
             return Ok(set);
         };
-        set.insert(offset_of(entry).share()?)?;
+        set.insert(entry.offset().share()?)?;
     }
     Ok(set)
 }

@@ -1,5 +1,5 @@
 //! The pids of the node records of a bundle.
-ghost use Rattle.std.specs.Prelude.{◌≡◌, ◌∷◌, ◌++◌, [], List, ℕ, OnOk, option_map, option_to_list};
+ghost use Rattle.std.specs.Prelude.{◌≡◌, ◌∷◌, ◌++◌, [], List, ℕ, OnOk, option_to_list};
 ghost use Rattle.aud_reader.specs.Steps.{Gives};
 ghost use Rattle.aud_tap.specs.RecordFields.{pid_of};
 ghost use Rattle.aud_reader.specs.Bundle.{pids_fit};
@@ -12,21 +12,6 @@ use std::hash::RandomState;
 
 /// The most different pids in the node records of a bundle.
 pub const MAX_PIDS: usize = 65_536;
-
-/// The pid that a record speaks of.
-fn pid_of(rec: &NodeRec) -> Option<&Text>
-    ensures { option_map (λ pid. pid.now) result ≡ pid_of rec.now }
-{
-    match rec {
-        NodeRec::Start { .. } | NodeRec::Take { .. } | NodeRec::Takes { .. } => None,
-        NodeRec::Opened { pid, .. }
-        | NodeRec::Join { pid, .. }
-        | NodeRec::Leave { pid, .. }
-        | NodeRec::Broke { pid, .. }
-        | NodeRec::Back { pid, .. }
-        | NodeRec::Gone { pid } => Some(pid),
-    }
-}
 
 /// Adds a pid, unless there are too many.
 fn add_pid(pids: &mut HashSet<Text, RandomState>, pid: &Text) -> Result<(), LineFault>
@@ -53,7 +38,7 @@ pub fn add_pid_of(pids: &mut HashSet<Text, RandomState>, rec: &NodeRec) -> Resul
     ensures pids { (all : List (List ℕ)) → HasPids pids.old all
         → OnOk result (HasPids pids.new (all ++ option_to_list (pid_of rec.now))) }
 {
-    match pid_of(rec) {
+    match rec.pid() {
         Some(pid) => add_pid(pids, pid),
         None => Ok(()),
     }

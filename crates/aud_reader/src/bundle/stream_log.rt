@@ -6,7 +6,7 @@ ghost use Rattle.aud_reader.specs.Private.Offsets.{HoldsOffsets};
 ghost use Rattle.aud_tap.specs.RecordFields.{offset_of};
 ghost use Rattle.aud_reader.specs.Bundle.{entry_room, with_entry, with_new_entry};
 
-use super::offsets::{Offsets, offset_of};
+use super::offsets::Offsets;
 use crate::fault::{LIMIT, LineFault};
 use crate::read::stream::stream_record;
 use aud_base::TextPool;
@@ -37,7 +37,7 @@ fn admit(
     if entries.len() >= MAX_ENTRIES {
         return Err(LIMIT);
     }
-    offsets.add(alloc, keys, entries, offset_of(entry))
+    offsets.add(alloc, keys, entries, entry.offset())
 }
 
 /// The entries so far, and their offsets.

@@ -1,6 +1,7 @@
 use Rattle.std.proofs.Common.{◌<◌, ap, map, ◌∙◌, subst, arith}
 use Rattle.aud_tap.specs.RecordFields.{offset_of}
-use Rattle.aud_reader.specs.Private.Offsets.{HoldsOffsets, rank}
+use Rattle.aud_tap.specs.Rank.{rank}
+use Rattle.aud_reader.specs.Private.Offsets.{HoldsOffsets}
 use Rattle.aud_reader.proofs.OffsetsLemmas.{ascending-put}
 use Rattle.aud_reader.proofs.bundle.offsets.Offsets.add.Goals as goal
 

@@ -1,7 +1,0 @@
-use Rattle.std.proofs.Common.{◌≡◌, drop}
-use Rattle.std.specs.List.{fold}
-use Rattle.aud_reader.specs.Private.Offsets.{after_byte}
-use Rattle.aud_reader.proofs.bundle.offsets.rank.Given as goal
-
-abbrev pub invariant-loop-byte : goal.invariant-loop-byte
-invariant-loop-byte l = fold after_byte l.numbers (drop l.byte-index l.text) ≡ fold after_byte (0, 0) l.text
