@@ -5,7 +5,7 @@ pub(crate) const HEAD: &str = r#"<!doctype html>
 <html lang="en">
 <head>
 <meta charset="utf-8">
-<meta http-equiv="Content-Security-Policy" content="default-src 'none'; script-src 'sha256-aimhjkcYGyNa7LsNR/UNR8s4lE9cJaiTJzoHJNNE3cs='; style-src 'sha256-Sa/bcERnPpFmw+weoDfErq+OoKo9cuKjOXv+alQSW30='; base-uri 'none'; form-action 'none'; require-trusted-types-for 'script'; trusted-types 'none'">
+<meta http-equiv="Content-Security-Policy" content="default-src 'none'; script-src 'sha256-uumieUfmv/WxX4aqqfhx9dLyDKUmrYPymbshLGn9ANU='; style-src 'sha256-Sa/bcERnPpFmw+weoDfErq+OoKo9cuKjOXv+alQSW30='; base-uri 'none'; form-action 'none'; require-trusted-types-for 'script'; trusted-types 'none'">
 <meta name="viewport" content="width=device-width, initial-scale=1">
 <title>sioaudit report</title>
 <style>
@@ -662,10 +662,12 @@ function outside(runs, span) {
 
 /**
  * Marks entries with the fault where they came, or were passed over: of ranges with very many entries the first and the last.
+ * The lines of `LOST` and `TAIL`, and of `CONTENT` the first of a longer range, are those of entries in the stream.
  * @param {Session} session @param {Lane[]} came @param {Session["also"]} wrong
  */
-function markWrong({ fault, at_frame, client }, came, wrong) {
+function markWrong({ fault, at_frame, client, evidence }, came, wrong) {
   const isLost = fault === "LOST";
+  const stream = evidence.find(it => /^entry /.test(it.says))?.tap ?? "";
   const says = ROLES[`also ${fault}`] ?? ROLES[`fault ${fault}`];
   const areFew = wrong.reduce((sum, it) => sum + it.to - it.position + 1, 0) <= MOST_SIGNS;
   for (const { position, to: last, lines } of wrong) {
@@ -678,7 +680,9 @@ function markWrong({ fault, at_frame, client }, came, wrong) {
       const row = came.find(it => it.runs.some(shows));
       const label = `entry ${at}${range} ${says} ${inLines(lines)}`;
       const line = (at === last ? lines.at(-1) : at === position ? lines[0] : null) ?? null;
-      row?.marks.push(mark({ at, shape: "sign", look: faultOf(fault).look, label, line, tap: client ?? "", weight: 3 }));
+      const isEntry = isLost || fault === "TAIL" || (fault === "CONTENT" && at < last);
+      const tap = isEntry ? stream : client ?? "";
+      row?.marks.push(mark({ at, shape: "sign", look: faultOf(fault).look, label, line, tap, weight: 3 }));
     }
   }
 }
