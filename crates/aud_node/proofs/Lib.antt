@@ -2,6 +2,7 @@ pub mod ListLemmas
 pub mod RecordLemmas
 pub mod MapLemmas
 pub mod PositionLemmas
+pub mod RankLemmas
 pub mod CursorLemmas
 pub mod TurnLemmas
 pub mod NodeLemmas

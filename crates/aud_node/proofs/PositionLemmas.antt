@@ -11,9 +11,9 @@ use Rattle.aud_node.specs.Recoverable.{is_recoverable}
 use Rattle.aud_node.specs.AtPosition.{is_recoverable_at}
 use Rattle.aud_node.specs.Private.NextPosition.{next_position}
 use Rattle.aud_node.specs.Stream.{Text, position, offset_of}
-use Rattle.aud_node.specs.Private.OffsetIndex.{kept_position, AreFirst, HoldsOffsets}
+use Rattle.aud_node.specs.Private.OffsetIndex.{kept_position, AreFirst, HoldsPositions}
 use Rattle.aud_node.proofs.ListLemmas.{drop-read}
-use Rattle.aud_node.specs.declared.offsets.Offsets.{Offsets}
+use Rattle.aud_node.specs.declared.offset_map.OffsetMap.{OffsetMap}
 
 -- the position of an offset that stands after so many entries
 abbrev pub position_after : List StreamRec → ℕ → Text → Option ℕ
@@ -52,12 +52,12 @@ position-first_index (e ∷ es) off = go (has_this_offset off e) (position-first
     go false ih = ap (option_map suc) ih
 
 -- the positions of the entries after so many
-pub record HoldsAfter (stream : List StreamRec) (i : ℕ) (offsets : Offsets) : Type 0 where
+pub record HoldsAfter (stream : List StreamRec) (i : ℕ) (offsets : OffsetMap) : Type 0 where
   pub positions_are : (off : Text) → kept_position offsets off ≡ position_after stream i off
   pub are_first : offsets.distinct ≡ true → AreFirst (drop i stream)
 
 -- one entry more in front
-pub HoldsAfter-step : (stream : List StreamRec) (n : ℕ) (e : StreamRec) (old new : Offsets) → 0 < n → n - 1 < length stream → e ≡ get_or stream (n - 1) e → HoldsAfter stream n old
+pub HoldsAfter-step : (stream : List StreamRec) (n : ℕ) (e : StreamRec) (old new : OffsetMap) → 0 < n → n - 1 < length stream → e ≡ get_or stream (n - 1) e → HoldsAfter stream n old
     → ((q : Text) → kept_position new q ≡ cond (bytes_eq (offset_of e) q) (Some (n - 1 + 1)) (kept_position old q))
     → (new.distinct ≡ true → old.distinct ≡ true) → (new.distinct ≡ true → kept_position old (offset_of e) ≡ None)
     → HoldsAfter stream (n - 1) new
@@ -70,7 +70,7 @@ HoldsAfter-step stream n e old new some within read held marked was_distinct was
     }
 
 -- the entries after none are all
-pub HoldsAfter-all : (stream : List StreamRec) (offsets : Offsets) → HoldsAfter stream 0 offsets → HoldsOffsets stream offsets
+pub HoldsAfter-all : (stream : List StreamRec) (offsets : OffsetMap) → HoldsAfter stream 0 offsets → HoldsPositions stream offsets
 HoldsAfter-all stream offsets held = record { positions_are = λ off. grind (arith, held.positions_are off); are_first = held.are_first }
 
 -- the offset is that of the entry, if there is one

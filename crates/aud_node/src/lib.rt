@@ -21,9 +21,11 @@
 mod addressees;
 mod by_name;
 mod cursors;
+mod fields;
 mod known;
 mod logs;
 mod node_log;
+mod offset_map;
 mod offsets;
 mod positions;
 mod recoverable;

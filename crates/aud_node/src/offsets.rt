@@ -1,25 +1,26 @@
 //! Where each offset stands in the stream.
-ghost use Rattle.std.specs.Prelude.{◌≡◌, IfOk, OnOk, Some, None, true, if◌then◌else◌};
-ghost use Rattle.std.specs.Str.{bytes_eq};
-ghost use Rattle.aud_node.specs.Stream.{Text};
-ghost use Rattle.aud_node.specs.Private.OffsetIndex.{kept_position, HoldsOffsets};
+ghost use Rattle.std.specs.Prelude.{◌≡◌, List, IfOk, IfSome, true};
+ghost use Rattle.aud_tap.specs.declared.records.StreamRec.{StreamRec};
+ghost use Rattle.aud_node.specs.Stream.{position};
+ghost use Rattle.aud_node.specs.Private.OffsetIndex.{AreFirst, HoldsOffsets, HoldsRanks, is_past};
 
+use crate::offset_map::OffsetMap;
 use crate::rest::Rest;
-use aud_tap::StreamRec;
+use aud_tap::{StreamRec, rank};
 use std::alloc::{AllocError, Global};
-use std::collections::HashMap;
 use std::hash::RandomState;
 
-/// The position of each offset of the stream.
+/// What tells the position of each offset of the stream. Where the ranks of the offsets ascend, as they do in most
+/// streams, an offset is searched for by its rank; else it is looked up.
 #[derive(Drop)]
-pub struct Offsets<'a> {
-    positions: HashMap<&'a str, u64, RandomState>,
-    /// No two entries have the same offset.
-    distinct: bool,
+pub enum Offsets<'a> {
+    /// The ranks in the order of the entries, each greater than the one before it.
+    Ascending(Vec<u128>),
+    Any(OffsetMap<'a>),
 }
 
 impl<'a> Offsets<'a> {
-    /// The positions of these entries, which are read from the last on: of several with one offset the first is kept.
+    /// The offsets of these entries. Where they are looked up, they are hashed with these keys.
     pub fn build(
         alloc: Global,
         keys: RandomState,
@@ -27,43 +28,70 @@ impl<'a> Offsets<'a> {
     ) -> Result<Offsets<'a>, AllocError>
         ensures { IfOk result (HoldsOffsets entries.now) }
     {
-        let mut offsets = Offsets {
-            positions: HashMap::with_capacity_and_hasher(alloc, entries.len(), keys)?,
-            distinct: true,
-        };
-        for i in (0..entries.len()).rev() {
-            offsets.mark(entries.at(i).offset().as_str(), i as u64 + 1)?;
+        match ranks_of(alloc, entries)? {
+            Some(ranks) => Ok(Offsets::Ascending(ranks)),
+            None => Ok(Offsets::Any(OffsetMap::build(alloc, keys, entries)?)),
         }
-        Ok(offsets)
     }
 
-    /// The position of the offset.
-    pub fn get(&self, off: &str) -> Option<u64>
-        ensures { result ≡ kept_position self.now off.now }
+    /// The position of the offset among these entries, which are those of the stream.
+    pub fn get(&self, entries: &Rest<'_, StreamRec>, off: &str) -> Option<u64>
+        requires { HoldsOffsets entries.now self.now }
+        ensures { result ≡ position entries.now off.now }
     {
-        self.positions.get(off).copied()
+        match self {
+            Offsets::Ascending(ranks) => search(ranks.as_slice(), entries, off),
+            Offsets::Any(map) => map.get(off),
+        }
     }
 
     /// Whether no two entries have the same offset.
     pub fn distinct(&self) -> bool
-        ensures { result ≡ self.now.distinct }
+        ensures { (stream : List StreamRec) → HoldsOffsets stream self.now → result ≡ true
+            → AreFirst stream }
     {
-        self.distinct
-    }
-
-    /// The offset stands at this position, wherever it stood before.
-    fn mark(&mut self, off: &'a str, position: u64) -> Result<(), AllocError>
-        ensures positions { OnOk result ((q : Text)
-            → kept_position self.new q ≡ (if bytes_eq off.now q then Some position
-            else kept_position self.old q)) }
-        ensures was_distinct { OnOk result (self.new.distinct ≡ true → self.old.distinct ≡ true) }
-        ensures was_new { OnOk result (self.new.distinct ≡ true
-            → kept_position self.old off.now ≡ None) }
-    {
-        let old = self.positions.insert(off, position)?;
-        if old.is_some() {
-            self.distinct = false;
+        match self {
+            Offsets::Ascending(_) => true,
+            Offsets::Any(map) => map.distinct(),
         }
-        Ok(())
     }
+}
+
+/// The ranks of the entries' offsets; none where they don't ascend.
+fn ranks_of(alloc: Global, entries: &Rest<'_, StreamRec>) -> Result<Option<Vec<u128>>, AllocError>
+    ensures { IfOk result (λ ranks. IfSome ranks (λ ranks. HoldsRanks entries.now ranks.items)) }
+{
+    let mut ranks = Vec::with_capacity(alloc, entries.len())?;
+    for i in 0..entries.len() {
+        let rank = rank(entries.at(i).offset().as_str());
+        if !is_past(ranks.as_slice(), rank) {
+            return Ok(None);
+        }
+        ranks.push(rank)?;
+    }
+    Ok(Some(ranks))
+}
+
+/// Whether the number is greater than the last of these.
+fn is_past(ranks: &[u128], rank: u128) -> bool
+    ensures { result ≡ is_past ranks.now rank }
+{
+    match ranks.last() {
+        Some(last) => *last < rank,
+        None => true,
+    }
+}
+
+/// The position of the offset by the ranks. Only the entry of its rank can have it.
+fn search(ranks: &[u128], entries: &Rest<'_, StreamRec>, off: &str) -> Option<u64>
+    requires { HoldsRanks entries.now ranks.now }
+    ensures { result ≡ position entries.now off.now }
+{
+    let Ok(i) = ranks.binary_search(&rank(off)) else {
+        return None;
+    };
+    if entries.at(i).offset().as_str() != off {
+        return None;
+    }
+    Some(i as u64 + 1)
 }

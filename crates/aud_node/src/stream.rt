@@ -79,7 +79,7 @@ impl<'a> Stream<'a> {
     pub fn position(&self, off: &str) -> Option<u64>
         ensures { result ≡ position self.now off.now }
     {
-        self.offsets.get(off)
+        self.offsets.get(&self.entries, off)
     }
 
     /// The entry at the position, which counts from 1.
@@ -224,7 +224,7 @@ impl<'a> Stream<'a> {
     fn find_next(&self, cursor: u64, off: &str) -> Option<u64>
         ensures { result ≡ next_position self.now off.now cursor }
     {
-        match self.offsets.get(off) {
+        match self.position(off) {
             Some(position) if position > 0 && position - 1 == cursor => Some(position),
             _ => None,
         }

@@ -8,4 +8,4 @@ returns c =
     let stream = c.self.inside.entries in
     let text = c.args.text.now in
     ap (λ s. known_entry s text) (sym c.self.view_is)
-    ∙ sent-known stream text c.in_ok-before.before c.in_ok-entry.entry.now (c.self.invariant.offsets_are.are_first (sym c.distinct.ensures ∙ c.if-not-distinct.false)) (sym c.in_ok-entry.ensures) (sym c.is_sent_as.ensures ∙ c.if-not-is_sent_as.false)
+    ∙ sent-known stream text c.in_ok-before.before c.in_ok-entry.entry.now (c.distinct.ensures stream c.self.invariant.offsets_are c.if-not-distinct.false) (sym c.in_ok-entry.ensures) (sym c.is_sent_as.ensures ∙ c.if-not-is_sent_as.false)
