@@ -11,7 +11,7 @@ use crate::difference::{Difference, first_difference};
 use crate::window::{BadWindow, first_bad_window};
 use aud_cert::Fault;
 use aud_client::{Frame, Stay, Transcript};
-use aud_node::{Stream, offset};
+use aud_node::Stream;
 use aud_tap::Text;
 use std::alloc::{AllocError, Global};
 
@@ -135,7 +135,7 @@ fn offset_at(alloc: Global, stream: &Stream<'_>, position: u64) -> Result<Text, 
     ensures { IfOk result (λ off. off ≡ offset_at stream.now position) }
 {
     let off = match stream.entry(position) {
-        Some(entry) => offset(entry),
+        Some(entry) => entry.offset().as_str(),
         None => "",
     };
     Text::new(alloc, off)

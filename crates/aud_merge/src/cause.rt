@@ -5,7 +5,7 @@ ghost use Rattle.aud_node.specs.Cluster.{node_log};
 ghost use Rattle.aud_merge.specs.Private.Causes.{awaited, awaited_by, cause_seen, entry_cause, told, told_by, told_entry};
 
 use crate::step::Step;
-use aud_node::{Logs, offset};
+use aud_node::Logs;
 use aud_tap::{NodeRec, Records};
 
 /// An entry is appended: its offset, and 0. Or a session may begin a turn: its pid, and the turn's number.
@@ -59,7 +59,7 @@ fn told_entry<'a>(logs: &Logs<'a>, step: Step) -> Option<Cause<'a>>
 {
     match logs.stream_place() {
         Some(place) if place == step.log => match logs.stream().entries().get(step.index) {
-            Some(entry) => Some((offset(entry), 0)),
+            Some(entry) => Some((entry.offset().as_str(), 0)),
             None => None,
         },
         _ => None,

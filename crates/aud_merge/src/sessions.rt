@@ -8,7 +8,6 @@ ghost use Rattle.aud_merge.specs.Sessions.{Absent};
 ghost use Rattle.aud_merge.specs.SessionSeen.{seen_or_absent, session_seen};
 
 use crate::session::{OpenedSession, allows};
-use aud_node::pid;
 use aud_tap::NodeRec;
 use std::alloc::{AllocError, Global};
 use std::collections::BTreeMap;
@@ -60,8 +59,8 @@ impl<'a> Sessions<'a> {
     pub(crate) fn allow(&self, node: usize, rec: &NodeRec) -> bool
         ensures { result ≡ is_some (sessions_after node rec.now (pid_of rec.now) self.now) }
     {
-        match pid(rec) {
-            Some(pid) => allows(self.get(pid), node, rec),
+        match rec.pid() {
+            Some(pid) => allows(self.get(pid.as_str()), node, rec),
             None => true,
         }
     }
@@ -73,9 +72,10 @@ impl<'a> Sessions<'a> {
             ≡ Some self.new) }
         ensures unchanged { OnErr result (self.new ≡ self.old) }
     {
-        let Some(pid) = pid(rec) else {
+        let Some(pid) = rec.pid() else {
             return Ok(());
         };
+        let pid = pid.as_str();
         match self.map.get_mut(pid) {
             Some(session) => session.change(node, rec),
             None => self.insert(pid, OpenedSession::open(self.alloc, node, rec)?),

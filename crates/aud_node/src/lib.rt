@@ -21,7 +21,6 @@
 mod addressees;
 mod by_name;
 mod cursors;
-mod fields;
 mod known;
 mod logs;
 mod node_log;
@@ -35,7 +34,6 @@ mod session_turns;
 mod stream;
 mod turns;
 
-pub use fields::{offset, pid};
 pub use known::KnownEvent;
 pub use logs::Logs;
 pub use node_log::NodeLog;

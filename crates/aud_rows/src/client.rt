@@ -6,7 +6,7 @@ ghost use Rattle.aud_rows.specs.Private.SaidAt.{said_seen};
 
 use crate::row::Says;
 use aud_client::{Frame, Stay, StayPlaces};
-use aud_node::{Stream, offset};
+use aud_node::Stream;
 use aud_tap::Text;
 
 /// A record of a client's tap, by its number, and what it says.
@@ -61,7 +61,7 @@ pub fn frame_said<'r>(
     let says = Says::Got {
         conn: stay.c,
         position,
-        off: offset(entry),
+        off: entry.offset().as_str(),
     };
     Some(SaidAt { number, says })
 }

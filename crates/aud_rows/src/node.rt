@@ -6,7 +6,7 @@ ghost use Rattle.aud_rows.specs.Seen.{says_seen};
 ghost use Rattle.aud_rows.specs.NodeSays.{node_says, node_says_at, position_of, session_at};
 
 use crate::row::Says;
-use aud_node::{Logs, Stream, pid};
+use aud_node::{Logs, Stream};
 use aud_tap::{NodeRec, Records, Text};
 
 /// What the record with this number of the node at this place says.
@@ -62,7 +62,7 @@ pub fn session_of(records: &Records, number: usize) -> Option<&str>
     ensures { option_copied result ≡ session_at records.now number }
 {
     match records {
-        Records::Node(recs) => pid(recs.get(number)?),
+        Records::Node(recs) => Some(recs.get(number)?.pid()?.as_str()),
         Records::Stream(_) | Records::Client(_) => None,
     }
 }

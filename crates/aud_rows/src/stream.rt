@@ -7,7 +7,7 @@ ghost use Rattle.aud_rows.specs.Rows.{stream_recs};
 ghost use Rattle.aud_rows.specs.StreamSays.{stream_says_at};
 
 use crate::row::Says;
-use aud_node::{Logs, offset};
+use aud_node::Logs;
 use aud_tap::{Records, StreamRec, Tap};
 
 /// What the entry at this position of the stream's tap at this place says.
@@ -19,7 +19,7 @@ pub fn entry_says<'a>(logs: &Logs<'a>, place: usize, position: u64) -> Option<Sa
     let rec = entry_in(logs.taps().get(place)?, position as usize - 1)?;
     Some(Says::Entry {
         position,
-        off: offset(rec),
+        off: rec.offset().as_str(),
     })
 }
 

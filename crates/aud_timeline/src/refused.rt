@@ -12,7 +12,7 @@ ghost use Rattle.aud_timeline.specs.Refused.{IsMissedOf, ShowsRefused, asked_in,
 use crate::record_at::stay_at;
 use aud_client::Stay;
 use aud_explanation::Missed;
-use aud_node::{Stream, offset};
+use aud_node::Stream;
 use aud_rows::{ClientPlaces, Role, Row, Sheet};
 use aud_session_facts::{Recovery, missed};
 use std::alloc::{AllocError, Global};
@@ -129,7 +129,7 @@ fn missed_at<'r>(stream: &Stream<'r>, position: u64) -> Option<Missed<'r>>
     let entry = stream.entry(position)?;
     Some(Missed {
         position,
-        off: offset(entry),
+        off: entry.offset().as_str(),
     })
 }
 

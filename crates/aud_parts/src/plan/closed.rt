@@ -12,7 +12,6 @@ use crate::clients::measured::MeasuredClient;
 use crate::plan::Plan;
 use crate::plan::fault::{MAX_CLIENT_TAPS, MAX_SESSIONS};
 use crate::plan::units::is_started;
-use aud_node::pid;
 use aud_tap::{NodeRec, NodeRecs, Records, Tap, Text};
 
 /// Whether each session has one of the parts, each client's tap has that of all its sessions, and one part has all
@@ -140,8 +139,8 @@ fn first_part(plan: &Plan, recs: &NodeRecs) -> usize {
 
 /// The part of the session that the record names.
 fn part_named(plan: &Plan, rec: &NodeRec) -> Option<usize> {
-    match pid(rec) {
-        Some(pid) => plan.part_of(pid),
+    match rec.pid() {
+        Some(pid) => plan.part_of(pid.as_str()),
         None => None,
     }
 }
@@ -162,8 +161,8 @@ fn names_only(plan: &Plan, part: usize, recs: &NodeRecs) -> bool
 fn is_kept(plan: &Plan, part: usize, rec: &NodeRec) -> bool
     ensures { result ≡ keeps_record (is_in plan.now part) rec.now }
 {
-    match pid(rec) {
-        Some(pid) => plan.is_in(part, pid),
+    match rec.pid() {
+        Some(pid) => plan.is_in(part, pid.as_str()),
         None => true,
     }
 }

@@ -6,7 +6,6 @@ use crate::clients::measured::MeasuredClient;
 use crate::plan::groups::Groups;
 use crate::plan::node_set::NodeSet;
 use crate::plan::sessions::Sessions;
-use aud_node::pid;
 use aud_tap::{NodeRec, NodeRecs, Records, Tap, Text};
 use std::alloc::{AllocError, Global};
 
@@ -130,8 +129,8 @@ fn is_start(rec: &NodeRec) -> bool
 
 /// The number of the session that the record names.
 fn named_by(sessions: &Sessions, rec: &NodeRec) -> Option<usize> {
-    match pid(rec) {
-        Some(pid) => sessions.number_of(pid),
+    match rec.pid() {
+        Some(pid) => sessions.number_of(pid.as_str()),
         None => None,
     }
 }

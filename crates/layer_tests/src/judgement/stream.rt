@@ -2,7 +2,7 @@
 //! addressed to or except.
 use crate::judgement::asked::{assert_answers, cut};
 use crate::judgement::told::Told;
-use aud_node::{KnownEvent, Stream, offset};
+use aud_node::{KnownEvent, Stream};
 use std::test::Fail;
 
 /// A room that is named twice counts once; an event that isn't sent again is addressed to nobody.
@@ -63,7 +63,7 @@ pub fn tell_entry(stream: &Stream<'_>, off: &str, out: &mut Told) {
     let Some(entry) = stream.entry(position) else {
         return out.text("nowhere");
     };
-    out.text(offset(entry));
+    out.text(entry.offset().as_str());
     out.text(" at ");
     out.show(&position);
     out.text(" of ");
