@@ -42,10 +42,7 @@ fn offsets_of(
 {
     let mut set = HashSet::with_hasher(alloc, keys);
     for i in 0..entries.len() {
-        let Some(entry) = entries.get(i) else {
-            return Ok(set);
-        };
-        set.insert(entry.offset().share()?)?;
+        set.insert(entries[i].offset().share()?)?;
     }
     Ok(set)
 }
