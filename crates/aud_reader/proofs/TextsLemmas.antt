@@ -109,13 +109,9 @@ count-same texts others same =
     let (once, apart, is) = unique texts in
     sym (length-from_keys nat_list_eq_equiv once others apart (λ q. is q ∙ same q)) ∙ length-from_keys nat_list_eq_equiv once texts apart is
 
--- one more pid of one tap among all
-pub pids-moved : {S : Type 0} (s : HashSet (List ℕ) S) (before own after more : List (List ℕ)) → HasPids s ((before ++ own ++ after) ++ more) → HasPids s (before ++ (own ++ more) ++ after)
-pids-moved s before own after more has =
-    record {
-      texts = λ q. has.texts q ∙ moved q;
-      few = rw (count-same ((before ++ own ++ after) ++ more) (before ++ (own ++ more) ++ after) moved) has.few;
-    }
+-- texts that stand elsewhere are there as before
+texts-moved : (before own after more : List (List ℕ)) (q : List ℕ) → list_any (is_text q) ((before ++ own ++ after) ++ more) ≡ list_any (is_text q) (before ++ (own ++ more) ++ after)
+texts-moved before own after more q = simp (list_any-append) (swap (list_any (is_text q) before) (list_any (is_text q) own) (list_any (is_text q) after) (list_any (is_text q) more))
   where
     swap : (b o a m : Bool) → (((b || o) || a) || m) ≡ ((b || (o || m)) || a)
     swap true o a m = refl
@@ -125,8 +121,17 @@ pids-moved s before own after more has =
     swap false false false true = refl
     swap false false false false = refl
 
-    moved : (q : List ℕ) → list_any (is_text q) ((before ++ own ++ after) ++ more) ≡ list_any (is_text q) (before ++ (own ++ more) ++ after)
-    moved q = simp (list_any-append) (swap (list_any (is_text q) before) (list_any (is_text q) own) (list_any (is_text q) after) (list_any (is_text q) more))
+-- and counted as before
+pub count-moved : (before own after more : List (List ℕ)) → distinct_count is_text (before ++ (own ++ more) ++ after) ≡ distinct_count is_text ((before ++ own ++ after) ++ more)
+count-moved before own after more = count-same ((before ++ own ++ after) ++ more) (before ++ (own ++ more) ++ after) (texts-moved before own after more)
+
+-- one more pid of one tap among all
+pub pids-moved : {S : Type 0} (s : HashSet (List ℕ) S) (before own after more : List (List ℕ)) → HasPids s ((before ++ own ++ after) ++ more) → HasPids s (before ++ (own ++ more) ++ after)
+pids-moved s before own after more has =
+    record {
+      texts = λ q. has.texts q ∙ texts-moved before own after more q;
+      few = rw (count-moved before own after more) has.few;
+    }
 
 -- one more record of one tap among all
 pub pids-more : {S : Type 0} (s : HashSet (List ℕ) S) (before : List (List ℕ)) (recs : List NodeRec) (rec : NodeRec) (after : List (List ℕ))
