@@ -32,5 +32,5 @@ pub use fault::{InputCode, ReadFault};
 pub use law::lines_in_any_pieces;
 pub use line::{LentLine, Line};
 pub use lines::Lines;
-pub use read::parse_line;
+pub use read::{is_client_kind, parse_line, tap_kind, tap_of_kind};
 pub use splitter::{Splitter, next_line};

@@ -8,4 +8,6 @@ pub mod record;
 pub mod stream;
 pub mod tap_name;
 
+pub use header::tap_kind;
 pub use line::parse_line;
+pub use record::{is_client_kind, tap_of_kind};

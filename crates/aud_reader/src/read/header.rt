@@ -11,7 +11,8 @@ use aud_tap::{TapKind, Version};
 
 const OTHER_VERSION: LineFault = LineFault::Code(InputCode::Version);
 
-fn tap_kind(word: &str) -> Option<TapKind>
+/// The kind of tap that a word names.
+pub fn tap_kind(word: &str) -> Option<TapKind>
     ensures { result ≡ tap_kind word.now }
 {
     match word {

@@ -32,14 +32,15 @@ fn is_node_kind(kind: &str) -> bool
     )
 }
 
-fn is_client_kind(kind: &str) -> bool
+/// Whether a client's tap may have records of this kind.
+pub fn is_client_kind(kind: &str) -> bool
     ensures { result ≡ is_one_of client_kinds kind.now }
 {
     matches!(kind, "conn" | "in" | "inb" | "poll" | "out" | "lost")
 }
 
 /// The kind of tap that has records of this kind.
-fn tap_of_kind(kind: &str) -> Option<TapKind>
+pub fn tap_of_kind(kind: &str) -> Option<TapKind>
     ensures { result ≡ tap_of_kind kind.now }
 {
     if is_stream_kind(kind) {
