@@ -1,8 +1,8 @@
 -- Lines that stand in one block of memory, which grows.
-use Rattle.std.proofs.Common.{◌≡◌, ℕ, zero, suc, ◌+◌, ◌≤◌, List, [], ◌∷◌, ◌++◌, length, length-append, map, take, drop, refl, ap, ◌∙◌, arith}
+use Rattle.std.proofs.Common.{◌≡◌, ℕ, zero, suc, ◌+◌, ◌≤◌, List, [], ◌∷◌, ◌++◌, append_assoc, length, length-append, map, take, drop, refl, sym, ap, ◌∙◌, arith}
 use Rattle.std.specs.List.{All}
-use Rattle.std.proofs.Math.Seq.{take-length}
-use Rattle.std.proofs.lemmas.List.{map-append}
+use Rattle.std.proofs.Math.Seq.{drop-append-add, drop-append_seam, take-length}
+use Rattle.std.proofs.lemmas.List.{length-take, map-append}
 use Rattle.std.proofs.lemmas.List.Elements.{All-append, All-map, All-take}
 use Rattle.aud_reader.specs.declared.line.Line.{Line}
 use Rattle.aud_reader.specs.declared.lines.Bounds.{Bounds}
@@ -59,16 +59,9 @@ lines_at-push bytes line bounds at within number start size =
 abbrev pub shifted : ℕ → Bounds → Bounds
 shifted front at = record { number = at.number; start = front + at.start; length = at.length }
 
--- what follows the front, from a place on
-drop-front : (bytes more : List ℕ) (start : ℕ) → drop (length bytes + start) (bytes ++ more) ≡ drop start more
-drop-front [] more start = ap (λ n. drop n more) (omega arith)
-drop-front (b ∷ bytes) more start =
-    let next : suc (length bytes) + start ≡ suc (length bytes + start) = omega arith in
-    ap (λ n. drop n (b ∷ (bytes ++ more))) next ∙ drop-front bytes more start
-
 -- a line is the same where its block now stands
 line-shifted : (bytes more : List ℕ) (at : Bounds) → line_within (bytes ++ more) (shifted (length bytes) at) ≡ line_within more at
-line-shifted bytes more at = ap (λ (slice : List ℕ). record { number = at.number; bytes = take at.length slice }) (drop-front bytes more at.start)
+line-shifted bytes more at = ap (λ (slice : List ℕ). record { number = at.number; bytes = take at.length slice }) (drop-append-add bytes more at.start)
 
 lines-shifted : (bytes more : List ℕ) (others : List Bounds) → lines_at (bytes ++ more) (map (shifted (length bytes)) others) ≡ lines_at more others
 lines-shifted bytes more [] = refl
@@ -92,3 +85,50 @@ within-both bytes more bounds others n within after =
     let front = All-take (IsWithin more) n others after in
     All-append (IsWithin (bytes ++ more)) bounds (map (shifted (length bytes)) (take n others)) (λ k d h. omega (arith, both, within k d h))
     (All-map (IsWithin (bytes ++ more)) (shifted (length bytes)) (take n others) (λ k d h. omega (arith, both, front k d h)))
+
+-- ---- the lines of a text that stands at the end of the block
+
+-- they stand within a longer block
+pub within-longer : (bytes more : List ℕ) (bounds : List Bounds) → AreWithin bytes bounds → AreWithin (bytes ++ more) bounds
+within-longer bytes more bounds within = let both = length-append bytes more in λ k d h. omega (arith, both, within k d h)
+
+-- what follows the next newline stands at its end too
+pub stands-on : (bytes done left front others : List ℕ) → bytes ≡ done ++ left → left ≡ front ++ 10 ∷ others → (done : List ℕ) × (bytes ≡ done ++ others)
+stands-on bytes done left front others stands cut = (
+  done ++ (front ++ 10 ∷ []),
+  stands ∙ ap (λ l. done ++ l) (cut ∙ sym (append_assoc front (10 ∷ []) others)) ∙ sym (append_assoc done (front ++ 10 ∷ []) others),
+)
+
+-- where the next line of it stands
+pub record IsCut (bytes left : List ℕ) (at : Bounds) (line : Line) : Type 0 where
+  pub done : List ℕ
+  pub stands : bytes ≡ done ++ left
+  pub number : at.number ≡ line.number
+  pub start : at.start ≡ length done
+  pub size : at.length ≡ length line.bytes
+
+-- that line stands after the others
+pub lines_at-cut : (bytes left front others : List ℕ) (bounds : List Bounds) (at : Bounds) (line : Line) → IsCut bytes left at line → left ≡ front ++ 10 ∷ others
+    → line.bytes ≡ take (length line.bytes) front → lines_at bytes (bounds ++ at ∷ []) ≡ lines_at bytes bounds ++ line ∷ []
+lines_at-cut bytes left front others bounds at line is cut within =
+    map-append (line_within bytes) bounds (at ∷ []) ∙ ap (λ l. lines_at bytes bounds ++ l ∷ []) one
+  where
+    fits : length line.bytes ≤ length front
+    fits = omega (arith, ap length within, length-take (length line.bytes) front)
+
+    slice : take (length line.bytes) (drop (length is.done) (is.done ++ (front ++ 10 ∷ others))) ≡ line.bytes
+    slice =
+        ap (take (length line.bytes)) (drop-append_seam is.done (front ++ 10 ∷ others))
+        ∙ slice-front front (10 ∷ others) 0 (length line.bytes) (omega (arith, fits)) ∙ sym within
+
+    one : line_within bytes at ≡ line
+    one = rw (is.number, is.start, is.size, is.stands, cut) (ap (λ (bytes : List ℕ). record { number = line.number; bytes = bytes }) slice)
+
+-- and within the block, as those before it do
+pub within-cut : (bytes left front others : List ℕ) (bounds : List Bounds) (at : Bounds) (line : Line) → IsCut bytes left at line → left ≡ front ++ 10 ∷ others
+    → line.bytes ≡ take (length line.bytes) front → AreWithin bytes bounds → AreWithin bytes (bounds ++ at ∷ [])
+within-cut bytes left front others bounds at line is cut within are =
+    All-append (IsWithin bytes) bounds (at ∷ []) are (all-cons (IsWithin bytes) at [] here (λ k d h. absurd (omega (arith, h))))
+  where
+    here : at.start + at.length ≤ length bytes
+    here = omega (arith, is.start, is.size, ap length is.stands, length-append is.done left, ap length cut, length-append front (10 ∷ others), ap length within, length-take (length line.bytes) front)

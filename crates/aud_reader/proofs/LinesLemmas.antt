@@ -10,8 +10,8 @@ use Rattle.aud_reader.specs.declared.line.Line.{Line}
 use Rattle.aud_reader.specs.declared.fault.ReadFault.{ReadFault}
 use Rattle.aud_reader.specs.declared.fault.ReadFault.TheVariants.{Input}
 use Rattle.aud_reader.specs.declared.fault.InputCode.TheVariants.{LineTooLong}
-use Rattle.aud_reader.specs.Lines.{Split, IsPartial, line_pieces, onto_first, without_return, is_too_long, lines_from, lines_to_come, line_at, result_of, after_lines, has_newline}
-use Rattle.aud_reader.specs.Private.SplitterSteps.{line_ended, line_begun, splitter_with_line}
+use Rattle.aud_reader.specs.Lines.{Lines, Split, line_pieces, onto_first, without_return, is_too_long, lines_from, lines_to_come, line_at, result_of, after_lines, has_newline}
+use Rattle.aud_reader.specs.Private.SplitterSteps.{at_line, line_ended, line_begun, splitter_with_line}
 
 -- a search that finds no newline before a place
 pub none_before : (text : List ℕ) (n : ℕ) → Nowhere (Passes (is_byte 10) text) 0 n → has_newline (take n text) ≡ false
@@ -151,13 +151,29 @@ pub to_come-next : (s t : Split) (left front others more : List ℕ) → s.fault
 to_come-next s t left front others more none whole front_whole cut ended =
     rw (cut, ended, append_assoc) (to_come-line_ended s front (others ++ more) none whole front_whole)
 
+-- no line has begun, and none was refused
+pub is-at_line : (s : Split) → s.rest ≡ [] → s.fault ≡ None → s ≡ at_line s.waiting s.number
+is-at_line s empty none =
+    ap (λ (rest : List ℕ). let t : Split = record s { rest = rest } in t) empty
+    ∙ ap (λ (fault : Option ReadFault). let t : Split = record { waiting = s.waiting; number = s.number; rest = []; fault = fault } in t) none
+
+-- one more line, where none had begun
+pub come-next : (lines : List Line) (n : ℕ) (left front others more : List ℕ) (line : Line) → has_newline front ≡ false → left ≡ front ++ 10 ∷ others → Ok line ≡ line_at n front
+    → lines_to_come (at_line (lines ++ line ∷ []) (n + 1)) (others ++ more) ≡ lines_to_come (at_line lines n) (left ++ more)
+come-next lines n left front others more line whole cut is =
+    to_come-next (at_line lines n) (at_line (lines ++ line ∷ []) (n + 1)) left front others more refl refl whole cut (ap (splitter_with_line (at_line lines n)) is)
+
+-- or its refusal
+pub come-refused : (lines : List Line) (n : ℕ) (left front others more : List ℕ) (f : ReadFault) → has_newline front ≡ false → left ≡ front ++ 10 ∷ others → Err f ≡ line_at n front
+    → lines_to_come (at_line lines n) (left ++ more) ≡ record { lines = lines; fault = Some f }
+come-refused lines n left front others more f whole cut is =
+    let t = splitter_with_line (at_line lines n) (Err f) in
+    sym (to_come-next (at_line lines n) t left front others more refl refl whole cut (ap (splitter_with_line (at_line lines n)) is))
+    ∙ ap (λ (ls : List Line). let them : Lines = record { lines = ls; fault = Some f } in them) (append-nil lines)
+
 -- once a line has ended, or was refused, no part of a line is kept
 rest-is : (s : Split) (front : List ℕ) → (line_ended s front).rest ≡ []
 rest-is s front = elim (line_at s.number (s.rest ++ front)) as (λ r. (splitter_with_line s r).rest ≡ []) [ Ok line ↦ refl | Err f ↦ refl ]
-
--- after a line nothing has begun
-pub rest-line_ended : (s : Split) (front : List ℕ) → IsPartial (line_ended s front).rest
-rest-line_ended s front = rw (rest-is s front) (record { unended = refl; within = refl })
 
 -- a result that is fine comes from a splitter that has refused nothing
 pub none_of : (o : Option ReadFault) → Ok tt ≡ result_of o → o ≡ None

@@ -1,8 +1,11 @@
 //! Lines one after the other.
-ghost use Rattle.std.specs.Prelude.{◌≡◌, ◌+◌, ◌≤◌, ◌++◌, ◌∷◌, [], length, IfOk, IfErr, OnOk};
+ghost use Rattle.std.specs.Prelude.{◌≡◌, ◌≢◌, ◌+◌, ◌^◌, ◌<◌, ◌≤◌, ◌++◌, ◌∷◌, [], List, ℕ, length, false, Some, IfOk, IfErr, OnOk};
+ghost use Rattle.aud_reader.specs.Lines.{IsFront, has_newline, lines_to_come};
 ghost use Rattle.aud_reader.specs.Private.Bounds.{line_within};
+ghost use Rattle.aud_reader.specs.Private.SplitterSteps.{at_line};
 
-use crate::line::LentLine;
+use crate::fault::ReadFault;
+use crate::line::{LentLine, line_at, next_line};
 use std::alloc::{AllocError, Global};
 use std::marker::Model;
 
@@ -14,8 +17,8 @@ pub struct Bounds {
     length: usize,
 }
 
-/// Lines one after the other, whose bytes are one block of memory. It grows with the lines, and is kept when they are
-/// let go.
+/// Lines one after the other, whose bytes stand in one block of memory. It grows with the lines, and is kept when they
+/// are let go.
 #[derive(Drop)]
 pub struct Lines {
     alloc: Global,
@@ -86,6 +89,45 @@ impl Lines {
             })?;
         }
         Ok(())
+    }
+
+    /// Puts the lines that end in a text after the others, up to the first that is too long. The first has this number,
+    /// and the text is copied as one. Gives the number of the line that has begun, and its front.
+    pub(crate) fn cut<'a>(
+        &mut self,
+        number: u64,
+        text: &'a [u8],
+    ) -> Result<(u64, &'a [u8]), ReadFault>
+        requires { number + length text.now < 2 ^ 64 }
+        ensures lines { IfOk result (λ begun. (more : List ℕ)
+            → lines_to_come (at_line self.new begun.0) (begun.1.now ++ more)
+            ≡ lines_to_come (at_line self.old number) (text.now ++ more)) }
+        ensures refused { IfErr result (λ e. e ≢ ReadFault.Memory → (more : List ℕ)
+            → lines_to_come (at_line self.old number) (text.now ++ more)
+            ≡ record { lines = self.new; fault = Some e }) }
+        ensures begun { IfOk result (λ begun. has_newline begun.1.now ≡ false) }
+        ensures number { IfOk result (λ begun. begun.0 ≤ number + length text.now) }
+        ensures kept { IsFront self.old self.new }
+        ensures front { (more : List ℕ)
+            → IsFront self.new (lines_to_come (at_line self.old number) (text.now ++ more)).lines }
+    {
+        self.bytes.extend_from_slice(text)?;
+        let mut begun = number;
+        let mut left = text;
+        'lines: while let Some((front, others)) = next_line(left) {
+            let line = match line_at(begun, front) {
+                Ok(line) => line,
+                Err(fault) => return Err(fault),
+            };
+            self.bounds.push(Bounds {
+                number: line.number,
+                start: self.bytes.len() - left.len(),
+                length: line.bytes.len(),
+            })?;
+            begun += 1;
+            left = others;
+        }
+        Ok((begun, left))
     }
 
     /// How many lines there are.

@@ -1,13 +1,11 @@
 //! The lines of an input that comes in pieces.
-ghost use Rattle.std.specs.Prelude.{◌≡◌, ◌+◌, ◌-◌, ◌^◌, ◌<◌, ◌≤◌, ◌++◌, [], ◌∷◌, List, ℕ, length, take, Some, None, Ok, Err, IfOk, IfErr, OnOk, IfSome, IfNone, false, ◌≢◌};
-ghost use Rattle.aud_reader.specs.Lines.{IsFront, lines_of, lines_to_come, without_return, has_newline, IsPartial, line_at, result_of};
+ghost use Rattle.std.specs.Prelude.{◌≡◌, ◌+◌, ◌-◌, ◌^◌, ◌<◌, ◌≤◌, ◌++◌, [], List, ℕ, length, Some, None, Err, IfOk, IfErr, OnOk, IfSome, false, ◌≢◌};
+ghost use Rattle.aud_reader.specs.Lines.{IsFront, lines_of, lines_to_come, has_newline, IsPartial, line_at, result_of};
 ghost use Rattle.aud_reader.specs.Private.SplitterSteps.{answer_of, line_begun, line_ended, lines_with};
 
-use crate::fault::{InputCode, ReadFault, refuse};
-use crate::line::LentLine;
+use crate::fault::{ReadFault, refuse};
+use crate::line::{line_at, next_line};
 use crate::lines::Lines;
-use aud_tap::limits::MAX_LINE;
-use memchr::memchr;
 use std::alloc::Global;
 use std::marker::Model;
 use std::mem;
@@ -37,43 +35,6 @@ impl Model for Splitter {
     ghost invariant = { λ s. s.fault ≡ None → IsPartial s.rest.items };
 }
 
-/// The line without the carriage return at its end.
-fn strip_return(line: &[u8]) -> &[u8]
-    ensures value { result.now ≡ without_return line.now }
-    ensures front { without_return line.now ≡ take (length result.now) line.now }
-{
-    if !line.is_empty() && line[line.len() - 1] == b'\r' {
-        &line[..line.len() - 1]
-    } else {
-        line
-    }
-}
-
-/// The bytes before the first newline, and those after it; both are borrowed. `None` if there is no newline.
-pub fn next_line(text: &[u8]) -> Option<(&[u8], &[u8])>
-    ensures found { IfSome result (λ cut. (text.now ≡ cut.0.now ++ 10 ∷ cut.1.now)
-        × (has_newline cut.0.now ≡ false)) }
-    ensures none { IfNone result (has_newline text.now ≡ false) }
-{
-    let i = memchr(b'\n', text)?;
-    Some((&text[..i], &text[i + 1..]))
-}
-
-/// Keeps the line of a number after the others, or refuses it.
-fn keep_line(lines: &mut Lines, number: u64, text: &[u8]) -> Result<(), ReadFault>
-    ensures lines { result ≢ Err ReadFault.Memory
-        → lines.new ≡ lines_with lines.old (line_at number text.now) }
-    ensures value { result ≢ Err ReadFault.Memory → result ≡ answer_of (line_at number text.now) }
-    ensures kept { IfErr result (λ _. lines.new ≡ lines.old) }
-{
-    let bytes = strip_return(text);
-    if bytes.len() > MAX_LINE {
-        return Err(ReadFault::Input(number, InputCode::LineTooLong));
-    }
-    lines.push(&LentLine { number, bytes })?;
-    Ok(())
-}
-
 /// Keeps the line of a number, of which the rest has the front and these bytes are what follows.
 fn keep_ended(
     lines: &mut Lines,
@@ -87,11 +48,11 @@ fn keep_ended(
         → result ≡ answer_of (line_at number (rest.old.items ++ front.now)) }
     ensures kept { IfErr result (λ _. lines.new ≡ lines.old) }
 {
-    if rest.is_empty() {
-        return keep_line(lines, number, front);
-    }
     rest.extend_from_slice(front)?;
-    keep_line(lines, number, rest)
+    match line_at(number, rest) {
+        Ok(line) => Ok(lines.push(&line)?),
+        Err(fault) => Err(fault),
+    }
 }
 
 impl Splitter {
@@ -167,13 +128,33 @@ impl Splitter {
         let Ok(()) = self.rest.extend_from_slice(front) else {
             return refuse(&mut self.fault, ReadFault::Memory);
         };
-        if strip_return(&self.rest).len() > MAX_LINE {
-            return refuse(
-                &mut self.fault,
-                ReadFault::Input(self.number, InputCode::LineTooLong),
-            );
+        match line_at(self.number, &self.rest) {
+            Ok(_) => Ok(()),
+            Err(fault) => refuse(&mut self.fault, fault),
         }
-        Ok(())
+    }
+
+    /// Ends the lines of what follows a newline, and begins the last.
+    fn cut(&mut self, text: &[u8]) -> Result<(), ReadFault>
+        requires going { self.old.fault ≡ None }
+        requires none { self.old.rest ≡ [] }
+        requires number { self.old.number + length text.now < 2 ^ 64 }
+        ensures value { result ≡ result_of self.new.fault }
+        ensures lines { (more : List ℕ) → result ≢ Err ReadFault.Memory
+            → lines_to_come self.new more ≡ lines_to_come self.old (text.now ++ more) }
+        ensures partial { OnOk result (IsPartial self.new.rest) }
+        ensures number { self.new.number ≤ self.old.number + length text.now }
+        ensures kept { IsFront self.old.waiting self.new.waiting }
+        ensures front { (more : List ℕ)
+            → IsFront self.new.waiting (lines_to_come self.old (text.now ++ more)).lines }
+    {
+        match self.waiting.cut(self.number, text) {
+            Ok((number, begun)) => {
+                self.number = number;
+                self.begin_line(begun)
+            }
+            Err(fault) => refuse(&mut self.fault, fault),
+        }
     }
 
     /// Takes the next piece of the input.
@@ -197,12 +178,11 @@ impl Splitter {
         if let Some(fault) = self.fault {
             return Err(fault);
         }
-        let mut left = piece;
-        'lines: while let Some((front, others)) = next_line(left) {
-            self.end_line(front)?;
-            left = others;
-        }
-        self.begin_line(left)
+        let Some((front, others)) = next_line(piece) else {
+            return self.begin_line(piece);
+        };
+        self.end_line(front)?;
+        self.cut(others)
     }
 
     /// Ends the input: the lines that weren't handed out yet, with what came after the last newline.

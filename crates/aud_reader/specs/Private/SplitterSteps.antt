@@ -16,6 +16,10 @@ abbrev pub answer_of : Result Line ReadFault → Result (Unit {0}) ReadFault
 answer_of (Ok line) = Ok tt
 answer_of (Err f) = Err f
 
+-- a splitter at the start of a line
+abbrev pub at_line : List Line → ℕ → Split
+at_line lines number = record { waiting = lines; number = number; rest = []; fault = None }
+
 -- a splitter after a line, or its refusal
 abbrev pub splitter_with_line : Split → Result Line ReadFault → Split
 splitter_with_line s (Ok line) = record { waiting = s.waiting ++ line ∷ []; number = s.number + 1; rest = []; fault = None }

@@ -1,5 +1,5 @@
 use Rattle.aud_reader.proofs.LinesLemmas.{none_before, none_within, cut_at}
-use Rattle.aud_reader.proofs.splitter.next_line.Goals as goal
+use Rattle.aud_reader.proofs.line.next_line.Goals as goal
 
 pub returns-in_err-i-clause-none : goal.returns-in_err-i-clause-none
 returns-in_err-i-clause-none c = rw c.from_residual.ensures (none_within c.args.text.now c.in_err-i.ensures)
