@@ -1,4 +1,3 @@
-pub mod AheadLemmas
 pub mod Places
 pub mod OnePass
 pub mod Steps

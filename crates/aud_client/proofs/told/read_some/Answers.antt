@@ -1,6 +1,8 @@
-use Rattle.std.proofs.Common.{◌≡◌, ◌+◌, ◌∷◌, ◌++◌, [], ℕ, List, take, length, sym, ap, ◌∙◌, subst, arith, append_assoc, length-append}
+use Rattle.std.proofs.Common.{◌≡◌, ◌+◌, ◌∷◌, ◌++◌, [], ℕ, List, Some, take, length, slice_get, refl, sym, ap, ◌∙◌, subst, arith, append_assoc, length-append}
+use Rattle.std.specs.Option.{IsSomeAnd}
 use Rattle.std.proofs.lemmas.List.{take_more, length-take-le}
-use Rattle.std.proofs.lemmas.Slice.Zip.{AllZip-long}
+use Rattle.std.proofs.lemmas.Option.{MatchOption-at_some, slice_get_read}
+use Rattle.std.proofs.lemmas.Slice.Zip.{AllZip-left, AllZip-long}
 use Rattle.aud_tap.specs.declared.records.ClientRec.{ClientRec}
 use Rattle.aud_client.specs.TapPackets.{FromServer}
 use Rattle.aud_node.specs.Known.{spelled}
@@ -9,7 +11,6 @@ use Rattle.aud_client.specs.declared.stays.Stays.{Stays}
 use Rattle.aud_client.specs.Private.Ahead.{Carries}
 use Rattle.aud_client.specs.Private.Kept.{Keeps}
 use Rattle.aud_client.specs.Private.Told.{HasKept}
-use Rattle.aud_client.proofs.AheadLemmas.{AllZip-at}
 use Rattle.aud_client.proofs.KeptRecords.{HasKept-known}
 use Rattle.aud_client.proofs.told.read_some.Goals.{in-Some+in_ok-take_known-in-Some, in-None+in_ok-read_record-in-None}
 use Rattle.aud_client.proofs.told.read_some.Goals as goal
@@ -29,7 +30,10 @@ loop-i-preserved c = λ first done told recs number held.
     let count : c.args.number + i ≡ first + length read = omega (arith, number, length-append recs (take i some), length-take-le i some (omega arith)) in
     let more : recs ++ take (i + 1) some ≡ read ++ rec ∷ [] =
     ap (λ t. recs ++ t) (take_more some i rec (omega arith) ∙ ap (λ r. take i some ++ r ∷ []) (sym c.index-some-i.is)) ∙ sym (append_assoc recs (take i some) (rec ∷ [])) in
-    let carries = AllZip-at Carries some c.in_ok-known.known.items i rec c.index.result.now c.in_ok-known.ensures (omega arith) c.index-some-i.is c.index.ensures in
+    let known = c.in_ok-known.known.items in
+    let there : slice_get some i ≡ Some rec = slice_get_read some (length some) i rec refl (omega arith) c.index-some-i.is in
+    let beside : slice_get known i ≡ Some c.index.result.now = slice_get_read known (length some) i c.index.result.now (sym (AllZip-long Carries some known c.in_ok-known.ensures)) (omega arith) c.index.ensures in
+    let carries = subst (λ k. IsSomeAnd k (Carries rec)) beside (MatchOption-at_some (Unit {0}) (λ r. IsSomeAnd (slice_get known i) (Carries r)) rec there (AllZip-left Carries some known c.in_ok-known.ensures i)) in
     let kept : (reader : Reader) (st : Stays) → c.match-at_rest.reader ≡ reader → c.match-at_rest.stays ≡ st → HasKept stream c.args.c first done told (read ++ rec ∷ []) reader st
     → HasKept stream c.args.c first done told (recs ++ take (i + 1) some) c.match-at_rest.reader c.match-at_rest.stays =
     λ reader st same_reader same_stays it.
