@@ -26,7 +26,7 @@ Each P [] = Unit {0}
 Each P (x ∷ xs) = P x × Each P xs
 
 module _ {X : Type 0} (P : X → Type 0) where
-  each_of : (xs : List X) → All P xs → Each P xs
+  pub each_of : (xs : List X) → All P xs → Each P xs
   each_of [] h = tt
   each_of (x ∷ xs) h = (h 0 x (omega arith), each_of xs (λ k d lt. h (suc k) d (omega (arith, lt))))
 
@@ -47,7 +47,7 @@ module _ {X : Type 0} (P : X → Type 0) where
   each_cond true xs ys h k = h refl
   each_cond false xs ys h k = k refl
 
-zip_append : {X Y : Type 0} (R : X → Y → Type 0) (xs : List X) (ys : List Y) (us : List X) (vs : List Y) → AllZip R xs ys → AllZip R us vs → AllZip R (xs ++ us) (ys ++ vs)
+pub zip_append : {X Y : Type 0} (R : X → Y → Type 0) (xs : List X) (ys : List Y) (us : List X) (vs : List Y) → AllZip R xs ys → AllZip R us vs → AllZip R (xs ++ us) (ys ++ vs)
 zip_append R [] [] us vs h k = k
 zip_append R [] (y ∷ ys) us vs h k = absurd h
 zip_append R (x ∷ xs) [] us vs h k = absurd h
@@ -135,7 +135,7 @@ forgotten-before (q ∷ s) = grind (arith, forgotten-before s)
 
 module _ (placed : List PlacedPacket) where
   -- what packets give, and their records
-  all_given : {X : Type 0} (gives : TapPacket → Option X) (s : List PlacedPacket) → Each (Contains placed) s → AllZip (GivesAt placed gives) (records_of gives s) (filter_map gives (forgotten s))
+  pub all_given : {X : Type 0} (gives : TapPacket → Option X) (s : List PlacedPacket) → Each (Contains placed) s → AllZip (GivesAt placed gives) (records_of gives s) (filter_map gives (forgotten s))
   all_given gives [] h = tt
   all_given {X = X} gives (q ∷ s) h = go (gives q.1) refl (all_given gives s h.1)
     where
@@ -154,13 +154,13 @@ module _ (placed : List PlacedPacket) where
   last_given (n ∷ m ∷ ns) (x ∷ []) h = absurd h.1
   last_given (n ∷ m ∷ ns) (x ∷ y ∷ ys) h = last_given (m ∷ ns) (y ∷ ys) h.1
 
-  ask_given : (s : List PlacedPacket) → Each (Contains placed) s → MayGiveAt placed ask_of (last_number (records_of ask_of (placed_before_reply s))) (asked_of (forgotten s))
+  pub ask_given : (s : List PlacedPacket) → Each (Contains placed) s → MayGiveAt placed ask_of (last_number (records_of ask_of (placed_before_reply s))) (asked_of (forgotten s))
   ask_given s h =
       subst (λ ps. MayGiveAt placed ask_of (last_number (records_of ask_of (placed_before_reply s))) (last_of (filter_map ask_of ps))) (forgotten-before s)
       (last_given _ _ (all_given ask_of (placed_before_reply s) (each_before_reply (Contains placed) s h)))
 
   -- the reply
-  reply_given : (s : List PlacedPacket) → Each (Contains placed) s → MayGiveAt placed reply_at (first_of (records_of reply_at s)) (reply_of (forgotten s))
+  pub reply_given : (s : List PlacedPacket) → Each (Contains placed) s → MayGiveAt placed reply_at (first_of (records_of reply_at s)) (reply_of (forgotten s))
   reply_given [] h = tt
   reply_given (q ∷ s) h =
       subst (λ b. MayGiveAt placed reply_at (first_of (records_of reply_at (q ∷ s))) (cond b (reply_at q.1) (reply_of (forgotten s)))) (is_reply-at q.1) (go (reply_at q.1) refl (reply_given s h.1))
