@@ -6,7 +6,7 @@ use aud_node::{KnownEvent, Stream};
 use std::test::Fail;
 
 /// A room that is named twice counts once; an event that isn't sent again is addressed to nobody.
-static CASES: [&str; 1] = [
+static CASES: [&str; 3] = [
     // Of the last five but one none is sent again: it has an acknowledgement id; its packet is of another namespace; it
     // has no offset; it has an attachment too few.
     r#"
@@ -32,6 +32,12 @@ st {"k":"ev","off":"9-0","nsp":"/n","text":"2/n,[\"hi\",\"9-0\"]"}
 8-0 at 8 of 9, sent again false
 ? entry 10-0
 nowhere
+? entry 0-0
+nowhere
+? entry 4-5
+nowhere
+? entry 1-P
+nowhere
 ? known 2["hi","2-0"]
 Some(1), Some(1)
 ? known 2/n,["hi","9-0"]
@@ -50,6 +56,32 @@ None, None
 [], to all [9], excepting [1, 4]
 ? addressees /m r
 [], to all [], excepting []"#,
+    // Two offsets that have one rank.
+    r#"
+st {"k":"tap","v":1,"of":"stream"}
+st {"k":"ev","off":"1-1","nsp":"/","text":"2[\"hi\",\"1-1\"]"}
+st {"k":"ev","off":"1-A","nsp":"/","text":"2[\"hi\",\"1-A\"]"}
+? entry 1-1
+1-1 at 1 of 2, sent again true
+? entry 1-A
+1-A at 2 of 2, sent again true
+? entry 1-Q
+nowhere
+? known 2["hi","1-A"]
+Some(1), Some(1)"#,
+    // Offsets that don't ascend.
+    r#"
+st {"k":"tap","v":1,"of":"stream"}
+st {"k":"ev","off":"2-0","nsp":"/","text":"2[\"hi\",\"2-0\"]"}
+st {"k":"ev","off":"1-0","nsp":"/","text":"2[\"hi\",\"1-0\"]"}
+? entry 2-0
+2-0 at 1 of 2, sent again true
+? entry 1-0
+1-0 at 2 of 2, sent again true
+? entry 3-0
+nowhere
+? known 2["hi","1-0"]
+Some(1), Some(1)"#,
 ];
 
 #[test]
