@@ -11,8 +11,11 @@ use std::thread::Threads;
 /// How many times the files of an input may be read.
 pub const READ_LIMIT: u64 = 4_294_967_296;
 
-/// The most bytes that one read is asked for.
+/// How many bytes the first read is asked for.
 pub const PIECE: usize = 65_536;
+
+/// The most bytes that one read is asked for.
+pub const MAX_PIECE: usize = 4_194_304;
 
 /// The reader of the input, and whether a line has begun in the file that is read; and of all files how many pieces
 /// there were, and how many bytes.
@@ -69,7 +72,7 @@ impl Feeding {
         requires within { IsWithin self.old }
         requires room { self.old.pieces < READ_LIMIT }
         requires some { 0 < length piece.now }
-        requires size { length piece.now ≤ PIECE }
+        requires size { length piece.now ≤ MAX_PIECE }
         ensures taken { OnOk result (TakesIn self.old self.new piece.now) }
         ensures within { OnOk result (IsWithin self.new) }
         ensures pieces { OnOk result (self.new.pieces ≡ self.old.pieces + 1) }

@@ -57,6 +57,11 @@ fn is_certificate(layout: Layout, line: &LentLine<'_>) -> bool
     }
 }
 
+/// Whether lines that came with so many bytes of the input are enough for these threads to read them together.
+fn are_enough(threads: usize, lines: &Lines, size: usize) -> bool {
+    threads < 2 || MAX_LINES <= lines.len() || MAX_BYTES <= size
+}
+
 impl PartsReader {
     /// A reader before the first line. Texts are found again by their hashes under these keys.
     pub fn new(alloc: Global, keys: RandomState, layout: Layout) -> PartsReader
@@ -143,20 +148,25 @@ impl PartsReader {
         }
     }
 
-    /// Whether the lines to come needn't be kept before they are read: there is one thread, no other line waits, and none
-    /// can be a certificate.
-    fn reads_at_once(&self, threads: usize) -> bool
+    /// Whether these lines, which came with so many bytes of the input, needn't be kept before they are read: they are
+    /// enough for the threads, no other line waits, and none can be a certificate.
+    fn reads_at_once(&self, threads: usize, lines: &Lines, size: usize) -> bool
         ensures bundle { result ≡ true → self.now.layout ≡ Bundle }
         ensures none { result ≡ true → self.now.waiting ≡ [] }
     {
         match self.layout {
-            Layout::Bundle => threads < 2 && self.waiting.len() == 0,
+            Layout::Bundle => self.waiting.len() == 0 && are_enough(threads, lines, size),
             Layout::BundleAndCertificates => false,
         }
     }
 
     /// Reads the next lines, up to the first that is refused. They are kept only where one is.
-    fn read_at_once<H: Threads + Sync>(&mut self, rt: &H, lines: &Lines) -> Result<(), ReadFault>
+    fn read_at_once<H: Threads + Sync>(
+        &mut self,
+        rt: &H,
+        threads: usize,
+        lines: &Lines,
+    ) -> Result<(), ReadFault>
         requires going { self.old.taps.fault ≡ None }
         requires bundle { self.old.layout ≡ Bundle }
         requires none { self.old.waiting ≡ [] }
@@ -169,7 +179,7 @@ impl PartsReader {
             → AreAmong self.new.waiting (self.old.waiting ++ lines.now) }
         ensures held { IfErr result (λ e. e ≢ ReadFault.Memory → Holds e self.new.waiting) }
     {
-        match self.taps.lines(rt, 1, lines) {
+        match self.taps.lines(rt, threads, lines) {
             Ok(()) => Ok(()),
             Err(fault) => {
                 self.waiting.append(lines)?;
@@ -197,11 +207,11 @@ impl PartsReader {
             → AreAmong self.new.waiting (self.old.waiting ++ lines.now) }
         ensures held { IfErr result (λ e. e ≢ ReadFault.Memory → Holds e self.new.waiting) }
     {
-        if self.reads_at_once(threads) {
-            return self.read_at_once(rt, lines);
+        if self.reads_at_once(threads, lines, size) {
+            return self.read_at_once(rt, threads, lines);
         }
         self.keep_lines(lines, size)?;
-        if threads < 2 || MAX_LINES <= self.waiting.len() || MAX_BYTES <= self.bytes {
+        if are_enough(threads, &self.waiting, self.bytes) {
             return self.read_waiting(rt, threads);
         }
         Ok(())

@@ -22,7 +22,8 @@ use std::marker::Model;
 use std::thread::Threads;
 
 /// Reads an input that comes in pieces: for one thread the lines that a piece ends; for several the lines of the bundle
-/// wait until there are 32,768 of them, or 4 MiB, and are read together.
+/// wait until there are 32,768 of them, or 4 MiB, and are read together. A piece that brings as many, while no other
+/// line waits, is read at once.
 ///
 /// It keeps the line that has begun, the lines that wait, the certificates, and what the records of the other lines
 /// tell. After a refusal, also when out of memory, it gives that refusal from then on, and looks at no more bytes.

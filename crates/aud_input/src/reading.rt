@@ -6,10 +6,10 @@ ghost use Rattle.aud_input.specs.Files.{AreRecorded, AreUnrecorded};
 ghost use Rattle.aud_input.specs.Sources.{is_begun};
 ghost use Rattle.aud_base.specs.declared.watched.Watched.{Watched};
 ghost use Rattle.aud_base.specs.Watched.{inner_of, calls_of, has_failed};
-ghost use Rattle.aud_input.specs.Private.Feeding.{AreReadBefore, EndsFile, IsRead, IsReadWhole, IsRecordedOf, IsRefusedOf, IsWithin, TellsUnread, counts_after};
+ghost use Rattle.aud_input.specs.Private.Feeding.{AreReadBefore, EndsFile, IsRead, IsReadWhole, IsRecordedOf, IsRefusedOf, IsRoom, IsWithin, TellsUnread, counts_after};
 ghost use Rattle.aud_input.specs.declared.reading.ReadingFault.TheVariants.{Memory};
 
-use crate::feeding::{Feeding, PIECE, READ_LIMIT};
+use crate::feeding::{Feeding, MAX_PIECE, PIECE, READ_LIMIT};
 use crate::input::{Input, Layout};
 use crate::place::file_line;
 use crate::reader::InputReader;
@@ -77,16 +77,29 @@ fn unread(fault: RunFault, file: usize) -> ReadingFault
     }
 }
 
+/// Makes room for four times as many bytes where several threads parse the lines and a read filled the buffer, as far as
+/// there is memory. The lines of a large piece needn't be put together with those of others.
+fn make_room(threads: usize, read: usize, buffer: &mut Vec<u8>)
+    requires { IsRoom (length buffer.old.items) }
+    ensures { IsRoom (length buffer.new.items) }
+{
+    if 1 < threads && read == buffer.len() {
+        let size = (4 * read).min(MAX_PIECE);
+        let _ = buffer.resize(size, 0);
+    }
+}
+
 /// Takes in a file to its end. A read that fails is not tried again, of whatever kind its error is.
 fn read_file<H: Threads + Sync, R: Read>(
     rt: &H,
     threads: usize,
     feeding: &mut Feeding,
-    buffer: &mut [u8],
+    buffer: &mut Vec<u8>,
     file: &mut Watched<R>,
 ) -> Result<(), RunFault>
     requires within { IsWithin feeding.old }
-    requires room { length buffer.old ≡ PIECE }
+    requires room { IsRoom (length buffer.old.items) }
+    ensures room { IsRoom (length buffer.new.items) }
     ensures read { OnOk result (IsReadWhole (R.remaining (inner_of file.old)) feeding.old
         feeding.new) }
     ensures within { OnOk result (IsWithin feeding.new) }
@@ -101,7 +114,10 @@ fn read_file<H: Threads + Sync, R: Read>(
     'pieces: while feeding.pieces < READ_LIMIT {
         match file.read(buffer) {
             Ok(0) => return Ok(()),
-            Ok(n) => feeding.feed(rt, threads, &buffer[..n])?,
+            Ok(n) => {
+                feeding.feed(rt, threads, &buffer[..n])?;
+                make_room(threads, n, buffer);
+            }
             Err(_) => return Err(RunFault::Read),
         }
     }
@@ -167,7 +183,7 @@ fn read_all<H: Threads + Sync, R: Read>(
     threads: usize,
     alloc: Global,
     feeding: &mut Feeding,
-    buffer: &mut [u8],
+    buffer: &mut Vec<u8>,
     files: &mut [Watched<R>],
 ) -> Result<Vec<u64>, ReadingFault>
     requires begins { IsRead [] feeding.old.reader }
@@ -175,7 +191,7 @@ fn read_all<H: Threads + Sync, R: Read>(
     requires begun { feeding.old.begun ≡ false }
     requires bytes { feeding.old.bytes ≡ 0 }
     requires within { IsWithin feeding.old }
-    requires room { length buffer.old ≡ PIECE }
+    requires room { IsRoom (length buffer.old.items) }
     ensures read { IfOk result (λ counts. AreReadBefore
         (map (λ file. R.remaining (inner_of file)) files.old) counts.items feeding.new) }
     ensures unread { IfErr result (λ e. (file : ℕ) × (file < length files.old)

@@ -1,5 +1,5 @@
 -- What is made of an input so far.
-use Rattle.std.specs.Prelude.{◌≡◌, ℕ, ◌+◌, ◌-◌, ◌*◌, ◌≤◌, ◌++◌, List, [], ◌∷◌, length, map, is_none, Bool, false, if◌then◌else◌, Option, Some, None, IfSome, Ok, Err, slice_get, sum_by}
+use Rattle.std.specs.Prelude.{◌≡◌, ℕ, ◌+◌, ◌-◌, ◌*◌, ◌<◌, ◌≤◌, ◌++◌, List, [], ◌∷◌, length, map, is_none, Bool, false, if◌then◌else◌, Option, Some, None, IfSome, Ok, Err, slice_get, sum_by}
 use Rattle.aud_input.specs.declared.input.Layout.TheVariants.{Bundle}
 use Rattle.aud_input.specs.Input.{input_of}
 use Rattle.aud_input.specs.Reader.{HasLines, InputSoFar, input_to_come}
@@ -19,9 +19,13 @@ use Rattle.aud_input.specs.declared.feeding.Feeding.{Feeding}
 
 -- no more bytes were taken in than the pieces may have
 pub record IsWithin (s : Feeding) : Type 0 where
-  pub number : s.reader.cut.number ≤ 1 + s.pieces * 65536
-  pub size : s.bytes ≤ s.pieces * 65536
+  pub number : s.reader.cut.number ≤ 1 + s.pieces * 4194304
+  pub size : s.bytes ≤ s.pieces * 4194304
   pub pieces : s.pieces ≤ 4294967296
+
+-- so many bytes may be asked for at once
+abbrev pub IsRoom : ℕ → Type 0
+IsRoom n = (0 < n) × (n ≤ 4194304)
 
 -- a reader takes in these bytes: what comes after them gives what it gives after them, and a refusal stays
 pub record Takes (old new : InputSoFar) (bytes : List ℕ) : Type 0 where
