@@ -3,10 +3,10 @@ ghost use Rattle.std.specs.Prelude.{◌≡◌, ◌++◌, OnOk, string_bytes};
 ghost use Rattle.aud_json.specs.View.{view};
 ghost use Rattle.aud_refusals.specs.FieldHelp.{field_help, follow_text, form_text, found_text, unformed_text};
 
-use crate::kinds::is_client_kind;
 use crate::member::{Member, text_at};
 use crate::members::{first_unformed, members_of};
 use aud_json::Fields;
+use aud_reader::is_client_kind;
 use std::alloc::{AllocError, Global};
 
 /// What a member has to be.

@@ -4,9 +4,9 @@ ghost use Rattle.aud_json.specs.View.{view};
 ghost use Rattle.aud_reader.specs.Record.{tap_of_kind};
 ghost use Rattle.aud_refusals.specs.KindHelp.{first_help, header_text, kind_help, nodes_text, offset_help, offset_text, owner_text, second_help, unknown_text, version_help};
 
-use crate::kinds::tap_of_kind;
 use crate::member::{number_at, text_at};
 use aud_json::Fields;
+use aud_reader::tap_of_kind;
 use aud_tap::limits::{MAX_OFFSET, fits};
 use aud_tap::{TapKind, is_id};
 use std::alloc::AllocError;

@@ -31,7 +31,6 @@ mod field_help;
 mod help;
 mod json_help;
 mod kind_help;
-mod kinds;
 mod law;
 mod limit_help;
 mod member;

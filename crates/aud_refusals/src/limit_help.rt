@@ -5,10 +5,10 @@ ghost use Rattle.aud_tap.specs.Json.{text_at};
 ghost use Rattle.aud_refusals.specs.LimitHelp.{at_most_text, count_text, excess_text, item_text, kind_named, length_text, limit_help, node_text, records_text, taps_text};
 
 use crate::excess::{Excess, first_excess};
-use crate::kinds::{tap_kind, tap_of_kind};
 use crate::member::{Member, text_at};
 use crate::members::members_of;
 use aud_json::Fields;
+use aud_reader::{tap_kind, tap_of_kind};
 use aud_tap::TapKind;
 use std::alloc::AllocError;
 
