@@ -6,8 +6,9 @@ use Rattle.aud_input.specs.TapLines.{TapLines}
 use Rattle.aud_explanation.specs.declared.cause.CauseState.{CauseState}
 use Rattle.aud_causes.specs.declared.cause.Cause.{Cause}
 use Rattle.aud_causes.specs.declared.found.CauseFound.{CauseFound}
-use Rattle.aud_causes.specs.Words.{id_text, todo_text, why_text}
-use Rattle.aud_causes.specs.Records.{lines_at, name_of, node_of, records_of}
+use Rattle.aud_causes.specs.Table.{row_of}
+use Rattle.aud_causes.specs.Words.{id_text, why_text}
+use Rattle.aud_causes.specs.Records.{lines_at}
 use Rattle.aud_causes.specs.State.{state_of}
 use Rattle.aud_causes.specs.Texts.{texts_told}
 
@@ -25,7 +26,7 @@ cause_seen f = record { id = f.id.now; state = f.state; lines = f.lines.items; w
 
 -- what happened, and both texts where they part
 abbrev pub why_told : Cluster → Option ℕ → List ℕ → Cause → Text
-why_told c client numbers cause = why_text (name_of c (node_of cause)) cause ++ texts_told c client numbers cause
+why_told c client numbers cause = why_text c cause ++ texts_told c client numbers cause
 
 -- what is told of this cause, where these are the lines of the input, this is the place of the session's client's tap,
 -- if there is one, and these are the numbers of its stays there
@@ -34,9 +35,9 @@ shown_cause c lines client numbers state cause =
     record {
       id = id_text cause;
       state = state;
-      lines = lines_at c lines client numbers (records_of cause);
+      lines = lines_at c lines client numbers (row_of cause).records;
       why = why_told c client numbers cause;
-      todo = todo_text cause;
+      todo = (row_of cause).todo;
     }
 
 -- what is told of it among these, which are all that hold, where there are others that were ruled out, or not

@@ -6,6 +6,7 @@ pub use Rattle.aud_session_facts.specs.Account
 pub use Rattle.aud_explanation.specs.CauseState
 pub mod Filled
 pub mod NoPacket
+pub mod Table
 pub mod Words
 pub mod Records
 pub mod Excerpt

@@ -3,18 +3,18 @@ ghost use Rattle.std.specs.Prelude.{◌≡◌, IfOk, IfSome, map, string_bytes};
 ghost use Rattle.std.specs.Option.{option_copied};
 ghost use Rattle.aud_rows.specs.ClientPlaces.{AreOf};
 ghost use Rattle.aud_causes.specs.Found.{cause_seen, shown_cause, shown_causes, why_told};
-ghost use Rattle.aud_causes.specs.Records.{name_of, node_of, place_of};
+ghost use Rattle.aud_causes.specs.Records.{place_of};
 
 use crate::cause::Cause;
 use crate::causes::place_of;
 use crate::lines::lines_at;
-use crate::record_at::{node_of, records_of};
+use crate::record_at::records_in;
 use crate::state::state_of;
+use crate::table::row_of;
 use crate::texts::push_texts;
-use crate::why::why_text;
+use crate::why::filled;
 use aud_client::Recording;
 use aud_explanation::CauseState;
-use aud_node::Logs;
 use aud_rows::{ClientPlaces, Sheet};
 use std::alloc::{AllocError, Global};
 
@@ -68,14 +68,15 @@ fn shown_cause(
         ≡ shown_cause sheet.now.recording.now sheet.now.lines.now
         (place_of (option_copied tap.entry)) numbers.now state cause) }
 {
-    let lines = lines_at(alloc, sheet, tap, numbers, &records_of(cause))?;
+    let row = row_of(cause);
+    let lines = lines_at(alloc, sheet, tap, numbers, &records_in(row.records))?;
     let why = why_told(alloc, sheet.recording, place_of(tap), numbers, cause)?;
     Ok(CauseFound {
-        id: cause.id(),
+        id: row.id,
         state,
         lines,
         why,
-        todo: cause.todo(),
+        todo: row.todo,
     })
 }
 
@@ -90,21 +91,8 @@ fn why_told(
     ensures { IfOk result (λ why. string_bytes why
         ≡ why_told recording.now client numbers.now cause) }
 {
-    let node = name_of(recording.logs(), node_of(cause));
-    let mut why = why_text(alloc, cause, node)?;
+    let row = row_of(cause);
+    let mut why = filled(alloc, recording.logs(), row.why, &row.figures)?;
     push_texts(&mut why, recording, client, numbers, cause)?;
     Ok(why)
-}
-
-/// The name of the tap at the place, if there is one; else the empty text.
-fn name_of<'a>(logs: &Logs<'a>, place: Option<usize>) -> &'a str
-    ensures { result.now ≡ name_of logs.now place }
-{
-    let Some(place) = place else {
-        return "";
-    };
-    match logs.taps().get(place) {
-        Some(tap) => tap.name.as_str(),
-        None => "",
-    }
 }

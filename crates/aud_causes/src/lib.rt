@@ -50,6 +50,7 @@ mod recorded;
 mod refusal;
 mod same_json;
 mod state;
+mod table;
 mod taken_back;
 mod texts;
 mod turns;

@@ -9,5 +9,5 @@ use Rattle.aud_causes.proofs.why.filled.Given as goal
 abbrev pub invariant-loop-figure : goal.invariant-loop-figure
 invariant-loop-figure l =
     shadow (Utf8 l.rest)
-    × (string_bytes l.text ++ filled l.rest (map (figure_text l.node) (flat_map option_to_list (drop l.figure-index l.figures)))
-    ≡ filled l.words (map (figure_text l.node) (flat_map option_to_list l.figures)))
+    × (string_bytes l.text ++ filled l.rest (map (figure_text l.logs) (flat_map option_to_list (drop l.figure-index l.figures)))
+    ≡ filled l.words (map (figure_text l.logs) (flat_map option_to_list l.figures)))

@@ -17,4 +17,4 @@ pub returns-in_default-split_once : goal.returns-in_default-split_once
 returns-in_default-split_once c =
     let words = c.args.words.now in
     let none : list_any is_place words ≡ false = none_placed words (search rules) in
-    λ texts. rw (unplaced words texts none) (rw (unplaced words (map (figure_text c.args.node.now) (option_to_list c.args.figure) ++ texts) none) refl)
+    λ texts. rw (unplaced words texts none) (rw (unplaced words (map (figure_text c.args.logs.now) (option_to_list c.args.figure) ++ texts) none) refl)
