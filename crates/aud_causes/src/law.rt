@@ -15,12 +15,12 @@ ghost use Rattle.aud_causes.specs.Causes.{AreToldCauses};
 
 use aud_session_facts::verdict_is_found;
 
-/// Each cause that is told of the fault of a session has a name of that fault's list: a law of
-/// [`causes_of`](crate::causes_of). So these names and the [`refuted`](crate::refuted) ones are together that list; and
-/// of a tail, whose list is empty, nothing is told.
+/// The causes that [`causes_of`](crate::causes_of) tells of a session's fault have names of the list of causes that such
+/// a fault can have. So these names and the [`refuted`](crate::refuted) ones are together that list; and of a tail,
+/// whose list is empty, nothing is told.
 ///
-/// The verdict on the session is no for this fault, and the account is the session's, if it has one: that names what was
-/// found, and so does the fault.
+/// This is so where the verdict on the session is no for this fault, and the account, if there is one, is the
+/// session's: what the account found is then what the fault names.
 pub fn told_causes_are_candidates()
     ensures { (c : Cluster) (lines : List TapLines) (client : Option ℕ) (whole : Bool) (pid : Text)
         (noted : Noted) (account : Option Account) (fault : Fault) (causes : List CauseFound)

@@ -15,8 +15,10 @@ use aud_rows::{ClientPlaces, Role, Sheet};
 use aud_session_facts::Account;
 use std::alloc::{AllocError, Global};
 
-/// The other entries of which a frame that the client received of the session isn't the entry: past the first such one.
-/// It compares each frame with its entry once, and for each of a hundred ranges at most those of its two ends.
+/// The other entries of which a frame came that isn't the entry: those of the frames that the client received of the
+/// session with this pid, but for the entry of the first such frame, which is shown. They are at most a hundred ranges of
+/// positions, ascending, and a count of the entries past these. The tap is the client's, and the account the session's.
+/// It compares each frame with its entry once, and for each range those of its two ends again.
 pub(crate) fn altered_also<'r, 'a>(
     alloc: Global,
     sheet: &Sheet<'r, 'a>,
@@ -40,7 +42,8 @@ pub(crate) fn altered_also<'r, 'a>(
     all_altered(alloc, sheet, tap, numbers, frames, others)
 }
 
-/// These entries, each as it stands in the stream and as it came.
+/// The entries at these positions, which ascend and count from 1, each as it stands in the stream and as it came. The
+/// frames are those of the stays with these numbers, from 0, of the client's tap, stay after stay.
 fn all_altered(
     alloc: Global,
     sheet: &Sheet<'_, '_>,
@@ -67,7 +70,7 @@ fn all_altered(
     })
 }
 
-/// The line of the entry at the position, and those of all frames of it that aren't it.
+/// The line of the entry at the position, and those of all frames of it that aren't it, in the order in which they came.
 fn altered_lines(
     alloc: Global,
     sheet: &Sheet<'_, '_>,
@@ -143,7 +146,7 @@ fn push_altered(
     Ok(())
 }
 
-/// Those of the positions that are others than the first one: ascending, each once.
+/// Those of the positions that are others than the first one in this list: ascending, each once.
 fn past_first(alloc: Global, positions: &[u64]) -> Result<Vec<u64>, AllocError>
     ensures { IfOk result (λ found. AreAllOf (is_another positions.now) found.items) }
 {

@@ -1,8 +1,7 @@
 -- Where the lines of each tap stand in the text of all.
 use Rattle.std.proofs.Common.{◌≡◌, ◌<◌, ◌≤◌, ◌+◌, ◌-◌, ◌==◌, ◌||◌, ℕ, zero, suc, Bool, true, false, List, [], ◌∷◌, ◌++◌, length, map, take, drop, get_or, Some, slice_get, unwrap_or, refl, sym, ap, ◌∙◌, arith, true≢false, append_assoc, append-nil, length-append, length-drop}
-use Rattle.std.specs.List.{AllByRecursion, list_all}
-use Rattle.std.proofs.lemmas.Bool.{and_parts, or_parts}
-use Rattle.std.proofs.lemmas.Bool.Decides.{nat_tests}
+use Rattle.std.specs.List.{AllByRecursion}
+use Rattle.std.proofs.lemmas.Bool.{or_parts}
 use Rattle.std.proofs.lemmas.Grind.{flat_map-append}
 use Rattle.std.proofs.lemmas.List.{drop-drop, take_more, map-append, take_at, drop_at as drop_front}
 use Rattle.std.proofs.lemmas.Option.{same_Some, none-some}
@@ -10,14 +9,12 @@ use Rattle.aud_base.specs.Lists.{between}
 use Rattle.aud_base.proofs.Lists.{drop_at, element_at}
 use Rattle.aud_tap.specs.declared.records.Rec.{Rec}
 use Rattle.aud_tap.specs.declared.taps.Tap.{Tap}
-use Rattle.aud_tap.specs.TapName.{is_name_byte, is_tap_name}
-use Rattle.aud_tap.specs.Limits.{fits, max_name}
+use Rattle.aud_tap.specs.TapName.{is_tap_name}
 use Rattle.aud_reader.specs.Lines.{has_newline}
-use Rattle.aud_reader.proofs.LinesLemmas.{has_newline-append}
 use Rattle.aud_reader.specs.OwnLines.{recs_in, recs_of}
-use Rattle.aud_writer.specs.Written.{line_text, record_data}
+use Rattle.aud_writer.specs.Written.{line_text}
 use Rattle.aud_writer.specs.WrittenBundle.{ended, line_texts, named, named_recs, recs_of_taps}
-use Rattle.aud_writer.proofs.Newlines.{compact-line}
+use Rattle.aud_writer.proofs.LinesBack.{record-line}
 use Rattle.aud_parts.specs.declared.part.server_text.PlacedTap.{PlacedTap}
 use Rattle.aud_parts.specs.ServerTexts.{TapText, tap_text}
 use Rattle.aud_parts.specs.Private.PlacedTexts.{placed_text}
@@ -88,17 +85,6 @@ all-lines lines n left rest past stands = stands ∙ ap (λ ls. ended ls ++ rest
     drop-end (x ∷ xs) (suc k) h = drop-end xs k (omega (arith, h))
 
 -- ---- the lines of taps
-
-name_byte-line : (b : ℕ) → is_name_byte b ≡ true → (b == 10) ≡ false
-name_byte-line b h = grind (arith, nat_tests)
-
-name-line : (name : List ℕ) → list_all is_name_byte name ≡ true → has_newline name ≡ false
-name-line [] h = refl
-name-line (b ∷ name) h = let parts = and_parts (is_name_byte b) (list_all is_name_byte name) h in rw (name_byte-line b parts.0) (name-line name parts.1)
-
-record-line : (name : List ℕ) (rec : Rec) → is_tap_name name ≡ true → has_newline (line_text name rec) ≡ false
-record-line name rec form =
-    has_newline-append name _ (name-line name (and_parts (fits max_name name) (list_all is_name_byte name) form).1) (compact-line (record_data rec))
 
 -- no line that is written has a newline
 whole-named : (name : List ℕ) (recs : List Rec) → is_tap_name name ≡ true → AreWhole (line_texts (named name recs))

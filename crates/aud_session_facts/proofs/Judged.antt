@@ -1,7 +1,6 @@
 -- A verdict names what was found.
-use Rattle.std.proofs.Common.{◌≡◌, ◌<◌, ◌≤◌, ◌-◌, ◌+◌, Bool, true, false, cond, List, Option, Some, None, min, refl, sym, ap, subst, ◌∙◌, ◌⊎◌, inl, inr, arith}
+use Rattle.std.proofs.Common.{◌≡◌, ◌<◌, ◌≤◌, Bool, true, false, cond, List, Option, Some, None, refl, sym, ap, subst, ◌∙◌, ◌⊎◌, inl, inr, arith}
 use Rattle.std.proofs.lemmas.Bool.{cases_lt}
-use Rattle.std.proofs.lemmas.Option.{same_Some}
 use Rattle.aud_tap.specs.declared.records.StreamRec.{StreamRec}
 use Rattle.aud_tap.specs.declared.records.ClientRec.{ClientRec}
 use Rattle.aud_node.specs.Cluster.{Cluster}
@@ -11,34 +10,17 @@ use Rattle.aud_client.specs.Received.{are_in_namespace, frames_by_stay, received
 use Rattle.aud_cert.specs.declared.fault.Fault.{Fault}
 use Rattle.aud_cert.specs.declared.fault.Fault.TheVariants.{Names}
 use Rattle.aud_check.specs.declared.finding.Finding.{Finding}
-use Rattle.aud_check.specs.Faults.{Case, HasFault, IsReceived, difference_fault, fault_rank}
+use Rattle.aud_check.specs.Faults.{Case, HasFault, IsReceived}
 use Rattle.aud_check.specs.Findings.{IsFirstFinding, fault_shown}
 use Rattle.aud_check.specs.NamedStays.{are_of_session}
 use Rattle.aud_check.proofs.ClientCase.{one_namespace}
 use Rattle.aud_check.proofs.Ranks.{no_fault}
 use Rattle.aud_verdict.specs.Session.{SessionLogs, IsSession, client_log, due_to, own_stays, session_case, transcript}
 use Rattle.aud_verdict.specs.Faults.{Holds, HoldsFirst, HoldsOf, verdict_rank}
-use Rattle.aud_verdict.proofs.Made.{as_held, late}
+use Rattle.aud_verdict.proofs.Made.{as_held, late, lower, placed}
 use Rattle.aud_verdict.proofs.Sessions.{at_session, held, one_first, other_names}
 use Rattle.aud_session_facts.specs.declared.account.Account.{Account}
 use Rattle.aud_session_facts.specs.Account.{IsAccountOf, IsFound, IsFoundFor, case_at, found_for, is_as, is_of_received, stays_of}
-
--- where a fault of what was received stands in the two orders
-abbrev Placed : Case → Fault → Type 0
-Placed case f = (fault_rank f ≡ min (verdict_rank f - 5) 3 + (verdict_rank f - 11)) × (5 ≤ verdict_rank f) × (verdict_rank f ≤ 12) × (8 ≤ verdict_rank f → verdict_rank f ≤ 11 → difference_fault case ≡ Some f)
-
-placed : (case : Case) (f : Fault) → HasFault case f → Placed case f
-placed case f h = grind arith
-
--- one that comes earlier in the verdict comes earlier in the check
-lower : (case : Case) (g f : Fault) → verdict_rank g < verdict_rank f → HasFault case g → HasFault case f → fault_rank g < fault_rank f
-lower case g f less h k =
-    let (g_is, g_low, g_high, g_parted) = placed case g h in
-    let (f_is, f_low, f_high, f_parted) = placed case f k in
-    elim (cases_lt (fault_rank g) (fault_rank f)) [
-      | inl before ↦ before
-      | inr after ↦ (let one : verdict_rank g ≡ verdict_rank f = ap verdict_rank (same_Some g f (sym (g_parted (omega arith) (omega arith)) ∙ f_parted (omega arith) (omega arith))) in absurd (omega arith))
-    ]
 
 -- a fault of the session is one of what was received, by where it stands
 of_received : (c : Cluster) (whole : Bool) (s : SessionLogs) (f : Fault) → HoldsOf c whole s f → 5 ≤ verdict_rank f → verdict_rank f ≤ 12 → HasFault (session_case c s) f

@@ -5,8 +5,8 @@ ghost use Rattle.std.specs.Ordering.{nat_cmp};
 ghost use Rattle.aud_check.specs.Difference.{has_position};
 ghost use Rattle.aud_session_facts.specs.Missed.{came_at, not_among};
 
-use crate::positions::positions_in;
-use aud_client::Recording;
+use crate::positions::positions_received;
+use aud_client::{Recording, Stay};
 use std::alloc::{AllocError, Global};
 use std::collections::BTreeSet;
 
@@ -24,7 +24,8 @@ pub(crate) fn not_come(
     let Some(transcript) = recording.client(client) else {
         return not_among(alloc, &[], positions);
     };
-    let came = positions_in(alloc, &transcript.transcript().stays)?;
+    let stays: Vec<&Stay<'_>> = transcript.transcript().stays.iter().collect(alloc)?;
+    let came = positions_received(alloc, stays.as_slice())?;
     not_among(alloc, &came, positions)
 }
 

@@ -18,17 +18,6 @@ pub fn positions_received(alloc: Global, stays: &[&Stay<'_>]) -> Result<Vec<u64>
     Ok(positions)
 }
 
-/// The same of all stays of a client's tap.
-pub(crate) fn positions_in(alloc: Global, stays: &[Stay<'_>]) -> Result<Vec<u64>, AllocError>
-    ensures { IfOk result (λ positions. positions.items ≡ positions_received stays.now) }
-{
-    let mut positions = Vec::new(alloc);
-    for stay in stays {
-        push_positions(&mut positions, stay)?;
-    }
-    Ok(positions)
-}
-
 /// Adds those of one stay.
 fn push_positions(positions: &mut Vec<u64>, stay: &Stay<'_>) -> Result<(), AllocError>
     ensures { OnOk result (positions.new.items

@@ -109,15 +109,15 @@ not_made c pid fault is =
 -- ---- a made certificate
 
 -- where a fault of what was received stands in the two orders
-abbrev Placed : Case → Fault → Type 0
+abbrev pub Placed : Case → Fault → Type 0
 Placed case f = (fault_rank f ≡ min (verdict_rank f - 5) 3 + (verdict_rank f - 11)) × (5 ≤ verdict_rank f) × (verdict_rank f ≤ 12) × (8 ≤ verdict_rank f → verdict_rank f ≤ 11 → difference_fault case ≡ Some f)
 
 -- a fault of what was received comes in the verdict's order as in the check's
-placed : (case : Case) (f : Fault) → HasFault case f → Placed case f
+pub placed : (case : Case) (f : Fault) → HasFault case f → Placed case f
 placed case f h = grind arith
 
 -- so one that comes earlier in the verdict comes earlier in the check
-lower : (case : Case) (g f : Fault) → verdict_rank g < verdict_rank f → HasFault case g → HasFault case f → fault_rank g < fault_rank f
+pub lower : (case : Case) (g f : Fault) → verdict_rank g < verdict_rank f → HasFault case g → HasFault case f → fault_rank g < fault_rank f
 lower case g f less h k =
     let (g_is, g_low, g_high, g_mismatch) = placed case g h in
     let (f_is, f_low, f_high, f_mismatch) = placed case f k in

@@ -90,7 +90,7 @@ bytes-line : (name : List ℕ) → list_all is_name_byte name ≡ true → has_n
 bytes-line [] h = refl
 bytes-line (b ∷ name) h = let parts = and_parts (is_name_byte b) (list_all is_name_byte name) h in rw (name_byte-line b parts.0) (bytes-line name parts.1)
 
-record-line : (name : List ℕ) (r : Rec) → is_tap_name name ≡ true → has_newline (line_text name r) ≡ false
+pub record-line : (name : List ℕ) (r : Rec) → is_tap_name name ≡ true → has_newline (line_text name r) ≡ false
 record-line name r named =
     has_newline-append name (32 ∷ compact_text (record_data r)) (bytes-line name (and_parts (fits max_name name) (list_all is_name_byte name) named).1) (compact-line (record_data r))
 

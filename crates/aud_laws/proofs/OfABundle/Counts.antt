@@ -1,14 +1,11 @@
 -- How many different pids there are, and how many taps of each kind.
-use Rattle.std.proofs.Common.{◌≡◌, ℕ, ◌+◌, ◌<◌, ◌≤◌, List, [], ◌∷◌, ◌++◌, Bool, true, false, ◌||◌, Option, Some, None, option_to_list, Ok, cond, length, get_or, set, refl, sym, ap, ◌∙◌, arith, append-nil}
-use Rattle.std.specs.List.{list_any, filter_map, cons_option}
+use Rattle.std.proofs.Common.{◌≡◌, ℕ, ◌+◌, ◌<◌, ◌≤◌, List, [], ◌∷◌, ◌++◌, Option, Some, None, option_to_list, Ok, cond, length, get_or, set, refl, sym, ap, ◌∙◌, arith, append-nil}
+use Rattle.std.specs.List.{filter_map, cons_option}
 use Rattle.std.specs.Set.{distinct_count}
 use Rattle.std.proofs.lemmas.Bool.{ltb-true}
-use Rattle.std.proofs.lemmas.Cmp.{nat_list_eq_equiv}
 use Rattle.std.proofs.lemmas.Grind.{flat_map-append}
 use Rattle.std.proofs.lemmas.List.Elements.{filter_map-append}
-use Rattle.std.proofs.lemmas.List.Folds.{list_any-append}
 use Rattle.std.proofs.lemmas.List.Sums.{sum_by_push}
-use Rattle.std.proofs.lemmas.Map.Made.{length-from_keys}
 use Rattle.aud_tap.specs.declared.records.Version.{Version}
 use Rattle.aud_tap.specs.declared.records.TapKind.{TapKind}
 use Rattle.aud_tap.specs.declared.records.TapKind.TheVariants as kind
@@ -20,30 +17,9 @@ use Rattle.aud_reader.specs.declared.fault.InputCode.TheVariants.{Limit}
 use Rattle.aud_reader.specs.Bundle.{max_node_taps, max_client_taps, kind_of_tap, same_kind, taps_on, pids_in, pids_of, no_records, another_tap}
 use Rattle.aud_reader.proofs.KeptLemmas.{around, pids-empty}
 use Rattle.aud_reader.proofs.LineSteps.{guarded}
-use Rattle.aud_reader.proofs.TextsLemmas.{unique}
+use Rattle.aud_reader.proofs.TextsLemmas.{count-moved}
 
 -- ---- pids
-
--- lists that have the same texts have as many different ones
-count-same : (texts others : List (List ℕ)) → ((q : List ℕ) → list_any (is_text q) texts ≡ list_any (is_text q) others) → distinct_count is_text others ≡ distinct_count is_text texts
-count-same texts others same =
-    let (once, apart, is) = unique texts in
-    sym (length-from_keys nat_list_eq_equiv once others apart (λ q. is q ∙ same q)) ∙ length-from_keys nat_list_eq_equiv once texts apart is
-
--- pids that stand elsewhere are counted as before
-count-moved : (before own after more : List (List ℕ)) → distinct_count is_text (before ++ (own ++ more) ++ after) ≡ distinct_count is_text ((before ++ own ++ after) ++ more)
-count-moved before own after more = count-same ((before ++ own ++ after) ++ more) (before ++ (own ++ more) ++ after) moved
-  where
-    swap : (b o a m : Bool) → (((b || o) || a) || m) ≡ ((b || (o || m)) || a)
-    swap true o a m = refl
-    swap false true a m = refl
-    swap false false true true = refl
-    swap false false true false = refl
-    swap false false false true = refl
-    swap false false false false = refl
-
-    moved : (q : List ℕ) → list_any (is_text q) ((before ++ own ++ after) ++ more) ≡ list_any (is_text q) (before ++ (own ++ more) ++ after)
-    moved q = simp (list_any-append) (swap (list_any (is_text q) before) (list_any (is_text q) own) (list_any (is_text q) after) (list_any (is_text q) more))
 
 -- the pids of a node's records with one more
 pub pids-last : (records : List NodeRec) (rec : NodeRec) → filter_map pid_of (records ++ rec ∷ []) ≡ filter_map pid_of records ++ option_to_list (pid_of rec)
