@@ -1,5 +1,6 @@
 -- What the causes of a difference go by.
-use Rattle.std.specs.Prelude.{ℕ, suc, ◌-◌, Bool, false, List, [], ◌∷◌, length, Option, Some, None, if◌then◌else◌, nat_eq, nat_lt, slice_get}
+use Rattle.std.specs.Prelude.{ℕ, suc, ◌-◌, Bool, true, false, not, ◌&&◌, List, [], ◌∷◌, length, max, Option, Some, None, if◌then◌else◌, nat_eq, nat_le, nat_lt, slice_get}
+use Rattle.std.specs.List.{list_all}
 use Rattle.std.specs.Option.{option_map}
 use Rattle.aud_tap.specs.declared.records.StreamRec.{StreamRec}
 use Rattle.aud_client.specs.StaySeen.{StaySeen}
@@ -45,10 +46,35 @@ abbrev pub asked_after : List StreamRec → Option StaySeen → Option ℕ
 asked_after stream None = None
 asked_after stream (Some stay) = if is_recovered stay then asked_position stream stay.asked else None
 
--- the cursor of the node at the begin of the turn of the session's stay with this number, of so many. Stays and turns
--- are told apart by their order alone, so the turn is known where there are as many
-abbrev pub low_of_turn : List TurnSeen → ℕ → ℕ → Option ℕ
-low_of_turn turns stays number = if nat_eq (length turns) stays then option_map (λ (t : TurnSeen). t.low) (slice_get turns number) else None
+-- ---- which stay is of which turn
+
+-- the first of these stays did not ask for the session, and each later one did
+abbrev pub begin_as_turns : List StaySeen → Bool
+begin_as_turns [] = false
+begin_as_turns (stay ∷ later) = not (is_recovered stay) && list_all is_recovered later
+
+-- the client asked to go on after no entry past this position
+abbrev pub is_up_to : ℕ → Option ℕ → Bool
+is_up_to high None = true
+is_up_to high (Some after) = nat_le after high
+
+-- in each stay of these turns the client asked to go on after no entry that the turns before had not reached; turns count
+-- on from this number, and those before reached up to this position
+abbrev pub ask_in_reach : List StreamRec → List StaySeen → ℕ → ℕ → List TurnSeen → Bool
+ask_in_reach stream stays high number [] = true
+ask_in_reach stream stays high number (t ∷ later) =
+    is_up_to high (asked_after stream (slice_get stays number)) && ask_in_reach stream stays (max t.high high) (suc number) later
+
+-- the stays match the turns one by one, though no record of the client names a turn: there are as many; they begin as
+-- turns do, of which the first begins with an `open`, and each later one with a `back`; and each asks in reach
+abbrev pub stays_match : List StreamRec → List TurnSeen → List StaySeen → Bool
+stays_match stream turns stays = nat_eq (length turns) (length stays) && begin_as_turns stays && ask_in_reach stream stays 0 0 turns
+
+-- the cursor of the node at the begin of the turn of the session's stay with this number, where that is known: the stays
+-- match the turns
+abbrev pub low_of_turn : List StreamRec → List TurnSeen → List StaySeen → ℕ → Option ℕ
+low_of_turn stream turns stays number =
+    if stays_match stream turns stays then option_map (λ (t : TurnSeen). t.low) (slice_get turns number) else None
 
 -- what the node had to send again: what comes after the position that was asked for, up to its cursor where it took the
 -- session back; where both are known
@@ -69,5 +95,5 @@ facts_of stream turns stays difference =
           later = later;
           recovered = is_recovery (slice_get stays later);
           asked = asked_after stream (slice_get stays later);
-          replay = replay_of (asked_after stream (slice_get stays later)) (low_of_turn turns (length stays) later);
+          replay = replay_of (asked_after stream (slice_get stays later)) (low_of_turn stream turns stays later);
         }

@@ -1,8 +1,10 @@
 //! What the causes of a difference go by.
 ghost use Rattle.std.specs.Prelude.{◌≡◌, Some, length, map, slice_get};
+ghost use Rattle.std.specs.List.{list_all};
 ghost use Rattle.std.specs.Option.{option_copied};
+ghost use Rattle.aud_client.specs.Received.{is_recovered};
 ghost use Rattle.aud_check.specs.Frames.{asked_position};
-ghost use Rattle.aud_causes.specs.Facts.{asked_after, earlier_stay, facts_of, is_recovery, low_of_turn, parted_at, replay_of, stay_of_frame};
+ghost use Rattle.aud_causes.specs.Facts.{ask_in_reach, asked_after, begin_as_turns, earlier_stay, facts_of, is_recovery, is_up_to, low_of_turn, parted_at, replay_of, stay_of_frame, stays_match};
 
 use aud_cert::Turn;
 use aud_check::Difference;
@@ -55,7 +57,7 @@ pub(crate) fn facts_of(
     let parted = parted_at(difference);
     let later = stay_of_frame(stays, parted.again);
     let asked = asked_after(stream, stays, later);
-    let low = low_of_turn(turns, stays.len(), later);
+    let low = low_of_turn(stream, turns, stays, later);
     Facts {
         parted,
         earlier: earlier_stay(stays, difference),
@@ -174,16 +176,80 @@ fn asked_position(stream: &Stream<'_>, asked: &Asked) -> Option<u64>
     stream.position(asked.offset.as_ref()?.as_str())
 }
 
-/// The cursor of the node at the begin of the turn of the stay with this number. The turn is known where there are as
-/// many stays as turns.
-fn low_of_turn(turns: &[Turn<'_>], stays: usize, number: usize) -> Option<u64>
-    ensures { result ≡ low_of_turn turns.now stays number }
+/// The cursor of the node at the begin of the turn of the stay with this number, where the stays match the turns.
+fn low_of_turn(
+    stream: &Stream<'_>,
+    turns: &[Turn<'_>],
+    stays: &[&Stay<'_>],
+    number: usize,
+) -> Option<u64>
+    ensures { result
+        ≡ low_of_turn stream.now turns.now (map (λ stay. stay.now) stays.now) number }
 {
-    if turns.len() != stays {
+    if !stays_match(stream, turns, stays) {
         return None;
     }
     let turn = turns.get(number)?;
     Some(turn.low)
+}
+
+/// Whether the stays match the turns one by one: there are as many, they begin as turns do, and each asks in reach.
+fn stays_match(stream: &Stream<'_>, turns: &[Turn<'_>], stays: &[&Stay<'_>]) -> bool
+    ensures { result ≡ stays_match stream.now turns.now (map (λ stay. stay.now) stays.now) }
+{
+    if turns.len() != stays.len() || !begin_as_turns(stays) {
+        return false;
+    }
+    ask_in_reach(stream, turns, stays)
+}
+
+/// Whether the first of these stays did not ask for the session, and each later one did.
+fn begin_as_turns(stays: &[&Stay<'_>]) -> bool
+    ensures { result ≡ begin_as_turns (map (λ stay. stay.now) stays.now) }
+{
+    let Some((first, later)) = stays.split_first() else {
+        return false;
+    };
+    if (*first).is_recovered() {
+        return false;
+    }
+    are_recovered(later)
+}
+
+fn are_recovered(stays: &[&Stay<'_>]) -> bool
+    ensures { result ≡ list_all is_recovered (map (λ stay. stay.now) stays.now) }
+{
+    for stay in stays {
+        if !(*stay).is_recovered() {
+            return false;
+        }
+    }
+    true
+}
+
+/// Whether in each stay of these turns the client asked to go on after no entry that the turns before had not reached.
+fn ask_in_reach(stream: &Stream<'_>, turns: &[Turn<'_>], stays: &[&Stay<'_>]) -> bool
+    ensures { result
+        ≡ ask_in_reach stream.now (map (λ stay. stay.now) stays.now) 0 0 turns.now }
+{
+    let mut high = 0;
+    for (number, turn) in turns.iter().enumerate() {
+        if !is_up_to(high, asked_after(stream, stays, number)) {
+            return false;
+        }
+        high = turn.high.max(high);
+    }
+    true
+}
+
+/// Whether the client asked to go on after no entry past this position.
+fn is_up_to(high: u64, after: Option<u64>) -> bool
+    ensures { result ≡ is_up_to high after }
+{
+    match after {
+        Some(after) => after <= high,
+        None => true,
+    }
 }
 
 /// What was to be replayed, where both ends are known.

@@ -3,7 +3,7 @@ use crate::explanations::cases::assert_cases;
 use std::test::Fail;
 
 /// Texts of these cases, each after its name.
-static TEXTS: [&str; 6] = [
+static TEXTS: [&str; 7] = [
     // A session that leaves a room before its break, of which one event is yet to come.
     r#"LEFT
 st {"k":"tap","v":1,"of":"stream"}
@@ -73,6 +73,50 @@ c1 {"k":"out","t":"40{\"pid\":\"P\",\"offset\":\"1-0\"}"}
 c1 {"k":"in","t":"42[\"hi\",\"3-0\"]"}
 c1 {"k":"in","t":"40{\"sid\":\"s1\",\"pid\":\"P\"}"}
 "#,
+    // Four turns, of which the second is missing in the client's tap, and the node of the fourth isn't tapped: as many
+    // stays as turns. The recovery of the third leaves one entry out.
+    r#"SHIFTED
+st {"k":"tap","v":1,"of":"stream"}
+st {"k":"ev","off":"1-0","nsp":"/","rooms":["s1"],"text":"2[\"hi\",\"1-0\"]"}
+st {"k":"ev","off":"2-0","nsp":"/","rooms":["s1"],"text":"2[\"hi\",\"2-0\"]"}
+st {"k":"ev","off":"3-0","nsp":"/","rooms":["s1"],"text":"2[\"hi\",\"3-0\"]"}
+st {"k":"ev","off":"4-0","nsp":"/","rooms":["s1"],"text":"2[\"hi\",\"4-0\"]"}
+st {"k":"ev","off":"5-0","nsp":"/","rooms":["s1"],"text":"2[\"hi\",\"5-0\"]"}
+a {"k":"tap","v":1,"of":"node"}
+a {"k":"start","off":null}
+a {"k":"open","pid":"P","sid":"s1","nsp":"/"}
+a {"k":"take","off":"1-0"}
+a {"k":"break","pid":"P","turn":0}
+b {"k":"tap","v":1,"of":"node"}
+b {"k":"start","off":null}
+b {"k":"take","off":"1-0"}
+b {"k":"take","off":"2-0"}
+b {"k":"take","off":"3-0"}
+b {"k":"back","pid":"P","turn":1}
+b {"k":"break","pid":"P","turn":1}
+c {"k":"tap","v":1,"of":"node"}
+c {"k":"start","off":null}
+c {"k":"take","off":"1-0"}
+c {"k":"take","off":"2-0"}
+c {"k":"take","off":"3-0"}
+c {"k":"take","off":"4-0"}
+c {"k":"take","off":"5-0"}
+c {"k":"back","pid":"P","turn":2}
+c {"k":"break","pid":"P","turn":2}
+c1 {"k":"tap","v":1,"of":"client"}
+c1 {"k":"conn","c":1}
+c1 {"k":"in","t":"40{\"sid\":\"s1\",\"pid\":\"P\"}"}
+c1 {"k":"in","t":"42[\"hi\",\"1-0\"]"}
+c1 {"k":"conn","c":2}
+c1 {"k":"out","t":"40{\"pid\":\"P\",\"offset\":\"1-0\"}"}
+c1 {"k":"in","t":"42[\"hi\",\"2-0\"]"}
+c1 {"k":"in","t":"42[\"hi\",\"3-0\"]"}
+c1 {"k":"in","t":"42[\"hi\",\"5-0\"]"}
+c1 {"k":"in","t":"40{\"sid\":\"s1\",\"pid\":\"P\"}"}
+c1 {"k":"conn","c":3}
+c1 {"k":"out","t":"40{\"pid\":\"P\",\"offset\":\"5-0\"}"}
+c1 {"k":"in","t":"40{\"sid\":\"s1\",\"pid\":\"P\"}"}
+"#,
     // Two events that change places.
     r#"SWAPPED
 st {"k":"tap","v":1,"of":"stream"}
@@ -136,7 +180,7 @@ c1 {"k":"in","t":"42[\"v\",\"1-0\"]"}
 ];
 
 /// What is written of each of them.
-static CASES: [&str; 8] = [
+static CASES: [&str; 9] = [
     r#"explain
 @BEHIND
 -> Ok(SomeNo)
@@ -210,6 +254,15 @@ client c1, namespace /, connection 2, turns 2, got 2, due 3, differs at frame 2
 cause skipped-in-window (certain, lines 23 25): The entry is one of those to be sent again, after 1
         up to 3, and was left out.
 do: look at how the node reads the stream for the replay.
+
+sessions: *"#,
+    // Which stay is of the third turn isn't known, so neither is what had to be sent again in it.
+    r#"explain
+@SHIFTED
+-> Ok(SomeNo)
+no P LOST 4-0 [delivery]
+*
+no known cause of the fault holds
 
 sessions: *"#,
     r#"explain
