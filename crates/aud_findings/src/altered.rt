@@ -16,9 +16,9 @@ use aud_session_facts::Account;
 use std::alloc::{AllocError, Global};
 
 /// The other entries of which a frame came that isn't the entry: those of the frames that the client received of the
-/// session with this pid, but for the entry of the first such frame, which is shown. They are at most a hundred ranges of
-/// positions, ascending, and a count of the entries past these. The tap is the client's, and the account the session's.
-/// It compares each frame with its entry once, and for each range those of its two ends again.
+/// session with this pid, but for the entry of the first such frame, which is shown. They are at most a hundred ranges
+/// of positions, ascending, and a count of the entries past these. The tap is the client's, and the account the
+/// session's. It compares each frame with its entry once, and for each range those of its two ends again.
 pub(crate) fn altered_also<'r, 'a>(
     alloc: Global,
     sheet: &Sheet<'r, 'a>,
@@ -70,7 +70,8 @@ fn all_altered(
     })
 }
 
-/// The line of the entry at the position, and those of all frames of it that aren't it, in the order in which they came.
+/// The line of the entry at the position, and those of all frames of it that aren't it, in the order in which they
+/// came.
 fn altered_lines(
     alloc: Global,
     sheet: &Sheet<'_, '_>,
