@@ -15,9 +15,9 @@ ghost use Rattle.aud_causes.specs.Causes.{AreToldCauses};
 
 use aud_session_facts::verdict_is_found;
 
-/// The causes that [`causes_of`](crate::causes_of) tells of a session's fault have names of the list of causes that such
-/// a fault can have. So these names and the [`refuted`](crate::refuted) ones are together that list; and of a tail,
-/// whose list is empty, nothing is told.
+/// The causes that [`causes_of`](crate::causes_of) tells of a session's fault have names of the list of causes that
+/// such a fault can have. So these names and the [`refuted`](crate::refuted) ones are together that list; and of a
+/// tail, whose list is empty, nothing is told.
 ///
 /// This is so where the verdict on the session is no for this fault, and the account, if there is one, is the
 /// session's: what the account found is then what the fault names.
