@@ -1,5 +1,5 @@
 //! The names of taps, by themselves and before a line's first blank, and the pids and sids of sessions.
-use aud_base::{Hints, mixed_name};
+use aud_base::{Hints, mixed_ending, mixed_name};
 use aud_input::{first_bytes, name_of};
 use aud_tap::{is_session_id, is_tap_name};
 use std::test::Fail;
@@ -74,6 +74,14 @@ fn guessed_names(rt: HostRuntime) -> Result<(), Fail> {
         );
     }
     Ok(())
+}
+
+/// Two more in one half of an ending, and one less in the other.
+#[test]
+fn endings_don_t_make_up_for_each_other(rt: HostRuntime) {
+    let one = mixed_ending(r#"2["hi","xxxx","10010-0"]"#, 0, 0);
+    let other = mixed_ending(r#"2["hi","xxxx","30000-0"]"#, 0, 0);
+    assert!(rt; one >> 32 != other >> 32);
 }
 
 static SESSION_IDS: [(&str, bool); 11] = [

@@ -1,7 +1,7 @@
-//! The fields of each kind of record, and keys that are unknown or stand twice.
+//! The fields of each kind of record, and keys that are unknown or stand twice; kinds, pids, and the ranks of offsets.
 use crate::bundles::input::read;
-use aud_reader::ReadFault;
-use aud_tap::{Blobs, ClientRec, NodeRec, Rec, StreamRec, TapKind, Texts, Version};
+use aud_reader::{ReadFault, is_client_kind, tap_kind, tap_of_kind};
+use aud_tap::{Blobs, ClientRec, NodeRec, Rec, StreamRec, TapKind, Texts, Version, rank};
 use std::alloc::Global;
 use std::hash::RandomState;
 use std::test::Fail;
@@ -309,4 +309,68 @@ fn lists_are_read_in_their_order(rt: HostRuntime) -> Result<(), Fail> {
     let wanted = Part::Lists(&["r"], &["s1", "s2"], &[&[1, 2], &[3]]);
     assert!(rt; reads_as(rt.alloc(), keys, text, &wanted));
     Ok(())
+}
+
+/// A word, the kind of tap that it names, and that which has records of this kind.
+static KINDS: [(&str, Option<TapKind>, Option<TapKind>); 7] = [
+    ("stream", Some(TapKind::Stream), None),
+    ("node", Some(TapKind::Node), None),
+    ("client", Some(TapKind::Client), None),
+    ("other", None, Some(TapKind::Stream)),
+    ("takes", None, Some(TapKind::Node)),
+    ("inb", None, Some(TapKind::Client)),
+    ("tap", None, None),
+];
+
+#[test]
+fn kinds_are_those_of_taps(rt: HostRuntime) {
+    for (word, named, has) in &KINDS {
+        assert!(rt; tap_kind(word) == *named, "{word}");
+        assert!(rt; tap_of_kind(word) == *has, "{word}");
+        assert!(rt;
+            is_client_kind(word) == (*has == Some(TapKind::Client)),
+            "{word}"
+        );
+    }
+}
+
+static PIDS: [(&str, Option<&str>); 3] = [
+    (r#"t {"k":"take","off":"1-0"}"#, None),
+    (r#"t {"k":"open","pid":"P","sid":"s","nsp":"/"}"#, Some("P")),
+    (r#"t {"k":"back","pid":"P","turn":1}"#, Some("P")),
+];
+
+fn pid_in(rec: &Rec) -> Option<&str> {
+    match rec {
+        Rec::Node(rec) => Some(rec.pid()?.as_str()),
+        _ => None,
+    }
+}
+
+/// Whether the record of the line names this pid.
+fn names(alloc: Global, keys: RandomState, text: &str, wanted: Option<&str>) -> bool {
+    match read(alloc, keys, 1, text.as_bytes()) {
+        Ok((_, rec)) => pid_in(&rec) == wanted,
+        Err(_) => false,
+    }
+}
+
+#[test]
+fn records_name_their_session(rt: HostRuntime) -> Result<(), Fail> {
+    let keys = RandomState::new(&rt)?;
+    for (text, pid) in &PIDS {
+        assert!(rt; names(rt.alloc(), keys, text, *pid), "{text}");
+    }
+    Ok(())
+}
+
+/// Offsets that ascend, as a server numbers them.
+static ASCENDING: [&str; 6] = ["9", "10", "9-0", "9-1", "10-0", "1700000000000-5"];
+
+#[test]
+fn ranks_ascend_as_offsets_do(rt: HostRuntime) {
+    for pair in ASCENDING.windows(2) {
+        assert!(rt; rank(pair[0]) < rank(pair[1]), "{}", pair[0]);
+    }
+    assert!(rt; rank("1-1") == rank("1-A"));
 }
