@@ -1,11 +1,13 @@
 -- Runs of bytes that pass a test, seen 16 bytes at a time.
-use Rattle.std.proofs.Common.{◌≡◌, ℕ, zero, suc, ◌+◌, ◌<◌, ◌≤◌, Bool, true, false, cond, eqb, List, [], ◌∷◌, ◌++◌, length, take, drop, refl, sym, ap, ◌∙◌, arith}
+use Rattle.std.proofs.Common.{◌≡◌, ℕ, zero, suc, ◌+◌, ◌*◌, ◌<◌, ◌≤◌, Bool, true, false, cond, not, eqb, List, [], ◌∷◌, ◌++◌, length, map, take, drop, Option, Some, None, MatchOption, refl, sym, ap, ◌∙◌, arith}
 use Rattle.std.proofs.lemmas.List.{length-take-le, take-take}
-use Rattle.std.proofs.lemmas.Simd.{chunk-drop, length-chunk}
+use Rattle.std.proofs.lemmas.Simd.{chunk-drop, length-chunk, take_more_put_chunk}
 use Rattle.std.proofs.lemmas.List.Folds.{prefix_len-append}
 use Rattle.std.proofs.lemmas.Bool.{eq-eqb, ne_eqb}
 use Rattle.std.specs.List.{prefix_len}
-use lib.Lanes.{chunk}
+use lib.Lanes.{chunk, mask_l, put_chunk}
+use Rattle.aud_json.specs.Private.Unescaped.{IsCopied}
+use Rattle.json.specs.Run.{is_plain, is_stop}
 
 module _ (p : ℕ → Bool) where
   run_of_take : (b : Bool) (m n : ℕ) → m ≤ n → cond b (1 + m) 0 ≤ cond b (1 + n) 0
@@ -40,6 +42,17 @@ module _ (p : ℕ → Bool) where
     pub run_through : prefix_len p (chunk i n d) ≡ n → prefix_len p (drop i d) ≡ n + prefix_len p (drop (i + n) d)
     run_through e = split ∙ ap (λ b. cond b (n + prefix_len p (drop (i + n) d)) (prefix_len p (chunk i n d))) (eq-eqb _ _ e)
 
+-- ---- bytes with a stop among them
+
+stop_first : (b : Bool) (x : ℕ) (xs : List ℕ) → is_stop x ≡ b → 0 < cond b 1 0 + 2 * mask_l (map is_stop xs) → (0 < mask_l (map is_stop xs) → prefix_len is_plain xs < length xs) → cond (not b) (1 + prefix_len is_plain xs) 0 < suc (length xs)
+stop_first true x xs e h more = omega arith
+stop_first false x xs e h more = let shorter = more (omega arith) in omega (arith, shorter)
+
+-- not all are plain
+pub some_stop : (xs : List ℕ) → 0 < mask_l (map is_stop xs) → prefix_len is_plain xs < length xs
+some_stop [] h = absurd (omega arith)
+some_stop (x ∷ xs) h = stop_first (is_stop x) x xs refl h (some_stop xs)
+
 -- ---- what was copied
 
 take-append-add : (xs ys : List ℕ) (n : ℕ) → take (length xs + n) (xs ++ ys) ≡ xs ++ take n ys
@@ -52,3 +65,17 @@ cut_back out old run at k n le within e =
     let long = length-take-le at old within in
     sym (take-take (at + n) (at + k) out (omega arith)) ∙ ap (take (at + n)) e ∙ ap (λ j. take (j + n) (take at old ++ take k run)) (sym long)
     ∙ take-append-add (take at old) (take k run) n ∙ ap (λ x. take at old ++ x) (take-take n k run le)
+
+-- some of the next 16 bytes
+copied_some : (text old : List ℕ) (from to n : ℕ) → from + 16 ≤ length text → to + 16 ≤ length old → n ≤ prefix_len is_plain (chunk from 16 text) → n ≤ 16 → IsCopied text from old to n (put_chunk to old (chunk from 16 text))
+copied_some text old from to n within room plain few =
+    let long : length (chunk from 16 text) ≡ 16 = length-chunk from 16 text within in
+    let written = take_more_put_chunk to old (chunk from 16 text) (to + 16) (omega arith) room in
+    (omega (arith, plain, prefix_len-take is_plain 16 (drop from text)), cut_back (put_chunk to old (chunk from 16 text)) old (drop from text) to 16 n few (omega arith) written)
+
+-- those before the first that is not plain, or all
+pub copied : (text old : List ℕ) (from to : ℕ) (r : Option ℕ) → from + 16 ≤ length text → to + 16 ≤ length old
+    → MatchOption r (prefix_len is_plain (chunk from 16 text) ≡ 16) (λ n. (n ≡ prefix_len is_plain (chunk from 16 text)) × (n < 16))
+    → MatchOption r (IsCopied text from old to 16 (put_chunk to old (chunk from 16 text))) (λ n. IsCopied text from old to n (put_chunk to old (chunk from 16 text)) × (n < 16))
+copied text old from to None within room all = copied_some text old from to 16 within room (omega (arith, all)) (omega arith)
+copied text old from to (Some n) within room few = (copied_some text old from to n within room (omega (arith, few.0)) (omega (arith, few.1)), few.1)

@@ -1,3 +1,4 @@
 -- What contracts of private functions alone cite. No public clause rests on these words.
 pub mod Passed
 pub mod Flat
+pub mod Unescaped

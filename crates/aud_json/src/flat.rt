@@ -13,7 +13,7 @@ ghost use Rattle.serde_json.specs.Data.{Data, object};
 ghost use Rattle.serde_json.specs.Read.{read};
 ghost use Rattle.aud_json.specs.Shown.{shown};
 ghost use Rattle.aud_json.specs.View.{members_view};
-ghost use Rattle.aud_json.specs.Private.Flat.{AreRead, IsRead, IsToken};
+ghost use Rattle.aud_json.specs.Private.Flat.{AreRead, IsOneLetter, IsRead, IsToken};
 
 use crate::field::Field;
 use crate::number::number;
@@ -163,6 +163,17 @@ fn field<'a>(
     Ok(Some((Field::List(items), rest, room)))
 }
 
+/// Whether a key of one byte and its colon come first, as `"k":` does.
+#[inline(always)]
+fn is_one_letter(bytes: &[u8]) -> bool
+    ensures { IsTrue result → IsOneLetter bytes.now }
+{
+    if bytes.len() < 4 || bytes[0] != b'"' || bytes[2] != b'"' || bytes[3] != b':' {
+        return false;
+    }
+    bytes[1] != b'"' && bytes[1] != b'\\' && bytes[1] >= 0x20
+}
+
 /// A key, and what follows its colon.
 #[inline(always)]
 fn key<'a>(text: &'a str) -> Option<(&'a str, &'a str)>
@@ -170,6 +181,9 @@ fn key<'a>(text: &'a str) -> Option<(&'a str, &'a str)>
         ≡ token (string p.0.now) ∷ colon ∷ lex between p.1.now) }
     ensures shorter { IfSome result (λ p. length p.1.now < length text.now) }
 {
+    if is_one_letter(text.as_bytes()) {
+        return Some((&text[1..2], &text[4..]));
+    }
     let (key, rest) = plain_text(after(text, b'"')?)?;
     Some((key, after(rest, b':')?))
 }

@@ -1,8 +1,9 @@
 -- What the fast way finds of an object's tokens.
-use Rattle.std.specs.Prelude.{◌≡◌, ℕ, List, length, false, Option, Some}
+use Rattle.std.specs.Prelude.{◌≡◌, ◌≤◌, ℕ, List, length, get_or, true, false, Option, Some}
 use Rattle.std.specs.Borrow.{Bor}
 use Rattle.json.specs.Json as Json
 use Rattle.json.specs.Lex.{lex, between, begins_colon, punctuate, fresh, after_value}
+use Rattle.json.specs.Run.{is_plain}
 use Rattle.json.specs.Token.{Token, string, number}
 use Rattle.serde_json.specs.Data as value
 use Rattle.serde_json.specs.Data.{Num, Data, Items}
@@ -28,3 +29,11 @@ abbrev pub AreRead : List ℕ → List (Option (Bor (List ℕ))) → List ℕ �
 AreRead text os rest =
     (ds : Items) × (converted of_items (Json.items (Json.value 125) (length (punctuate fresh (lex between text))) (punctuate fresh (lex between text))) ≡ Some (ds, punctuate after_value (lex between rest)))
     × (shown_items ds ≡ list_view os)
+
+-- a key of one plain byte comes first, between its quotes, and then a colon
+pub record IsOneLetter (text : List ℕ) : Type 0 where
+  pub long : 4 ≤ length text
+  pub opened : get_or text 0 0 ≡ 34
+  pub letter : is_plain (get_or text 1 0) ≡ true
+  pub closed : get_or text 2 0 ≡ 34
+  pub colon : get_or text 3 0 ≡ 58

@@ -2,8 +2,14 @@ use Rattle.std.proofs.Common.{◌-◌, ◌≤◌, length, take, drop}
 use Rattle.aud_json.proofs.Strings.{Passed}
 use Rattle.aud_json.proofs.unescape.unescape.Given as goal
 
-abbrev pub invariant-bytes : goal.invariant-bytes
-invariant-bytes l = record { passed : Passed l.bytes (take l.to l.room) (drop l.from l.bytes); behind : l.to ≤ l.from; within : l.from ≤ length l.bytes }
+abbrev pub invariant-whole : goal.invariant-whole
+invariant-whole l = record { passed : Passed l.bytes (take l.to l.room) (drop l.from l.bytes); behind : l.to ≤ l.from; within : l.from ≤ length l.bytes }
 
-abbrev pub decreases-bytes : goal.decreases-bytes
-decreases-bytes l = length l.bytes - l.from
+abbrev pub decreases-whole : goal.decreases-whole
+decreases-whole l = length l.bytes - l.from
+
+abbrev pub invariant-rest : goal.invariant-rest
+invariant-rest l = record { passed : Passed l.bytes (take l.to l.room) (drop l.from l.bytes); behind : l.to ≤ l.from; within : l.from ≤ length l.bytes }
+
+abbrev pub decreases-rest : goal.decreases-rest
+decreases-rest l = length l.bytes - l.from
