@@ -21,3 +21,4 @@ pub mod Forgetting
 pub mod TellingPlaces
 pub mod KeptPlaces
 pub mod Giving
+pub mod AtPlaces

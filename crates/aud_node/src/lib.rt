@@ -19,6 +19,7 @@
 #![tactic(auto)]
 
 mod addressees;
+mod both;
 mod by_name;
 mod cursors;
 mod known;

@@ -62,8 +62,9 @@ impl<'a> Logs<'a> {
         Logs::of(alloc, keys, taps, stream, nodes)
     }
 
-    /// The same in at most so many threads, which share out the nodes, and the entries to be looked at for which are
-    /// sent again after a recovery: with 0 or 1 none is started. How many there are changes nothing in the logs.
+    /// The same in at most so many threads, which share out the nodes, the entries to be looked at for which are sent
+    /// again after a recovery, and the indices of the stream: with 0 or 1 none is started. How many there are changes
+    /// nothing in the logs.
     pub fn build_in_threads<H: Threads + Sync>(
         rt: &H,
         alloc: Global,
@@ -79,7 +80,7 @@ impl<'a> Logs<'a> {
         let taps = taps.as_slice();
         let entries = entries_of(taps);
         let recoverable = recoverable_in_threads(rt, alloc, threads, &entries)?;
-        let stream = Stream::build(alloc, keys, entries, recoverable)?;
+        let stream = Stream::build_in_two(rt, alloc, keys, entries, recoverable)?;
         let all = Streamed { taps, stream };
         let nodes = nodes_in_threads(rt, alloc, keys, threads, &all)?;
         Logs::of(alloc, keys, taps, all.stream, nodes)

@@ -1,7 +1,7 @@
 //! Which entries a server sends again after a recovery.
-ghost use Rattle.std.specs.Prelude.{◌≡◌, IfOk, map, slice_get};
+ghost use Rattle.std.specs.Prelude.{◌≡◌, IfOk, map};
+ghost use Rattle.std.specs.Fork.{slice_chunk};
 ghost use Rattle.aud_sio.specs.Packet.{packet_view};
-ghost use Rattle.aud_node.specs.AtPosition.{is_some_recoverable};
 ghost use Rattle.aud_node.specs.Recoverable.{is_recoverable, is_packet_of, is_event};
 
 use crate::rest::Rest;
@@ -11,19 +11,18 @@ use aud_tap::{Event, StreamRec};
 use std::alloc::{AllocError, Global};
 use std::thread::Threads;
 
+/// How many entries a range has, where they are shared out by ranges.
+const RANGE: usize = 1_024;
+
 /// Of each entry, whether it is recoverable.
 pub fn recoverable_of(alloc: Global, entries: &Rest<'_, StreamRec>) -> Result<Vec<bool>, AllocError>
     ensures { IfOk result (λ flags. flags.items ≡ map is_recoverable entries.now) }
 {
-    let mut flags = Vec::new(alloc);
-    let mut scratch = Scratch::new(alloc);
-    for i in 0..entries.len() {
-        flags.push(is_recoverable(alloc, &mut scratch, entries.at(i))?)?;
-    }
-    Ok(flags)
+    recoverable_in_range(alloc, entries, entries.len(), 0)
 }
 
-/// The same in at most so many threads.
+/// The same in at most so many threads, which share out the entries by ranges of 1,024. A thread decodes all of a range
+/// by one scratch.
 pub fn recoverable_in_threads<H: Threads + Sync>(
     rt: &H,
     alloc: Global,
@@ -32,31 +31,39 @@ pub fn recoverable_in_threads<H: Threads + Sync>(
 ) -> Result<Vec<bool>, AllocError>
     ensures { IfOk result (λ flags. flags.items ≡ map is_recoverable entries.now) }
 {
-    let places = numbers_to(alloc, entries.len())?;
-    try_map(
+    let ranges = numbers_to(alloc, entries.len().div_ceil(RANGE))?;
+    let flags = try_map(
         rt,
         alloc,
         threads,
-        places.as_slice(),
-        |place: &usize| -> Result<bool, AllocError>
-            ensures { IfOk result (λ answer. answer
-                ≡ is_some_recoverable (slice_get entries.entry.now place.now)) }
-        { recoverable_at(alloc, entries, *place) },
-    )
+        ranges.as_slice(),
+        |range: &usize| -> Result<Vec<bool>, AllocError>
+            ensures { IfOk result (λ flags. flags.items
+                ≡ map is_recoverable (slice_chunk entries.entry.now 1024 range.now)) }
+        { recoverable_in_range(alloc, entries, RANGE, *range) },
+    )?;
+    flags.concat(alloc)
 }
 
-/// Whether the entry at the place is recoverable; false where there is none.
-fn recoverable_at(
+/// Of each entry of a range, whether it is recoverable. The entries are cut into ranges of this size, of which the last
+/// may be shorter; the number of the range counts from 0, and a range past the last has no entries.
+fn recoverable_in_range(
     alloc: Global,
     entries: &Rest<'_, StreamRec>,
-    place: usize,
-) -> Result<bool, AllocError>
-    ensures { IfOk result (λ answer. answer ≡ is_some_recoverable (slice_get entries.now place)) }
+    size: usize,
+    number: usize,
+) -> Result<Vec<bool>, AllocError>
+    ensures { IfOk result (λ flags. flags.items
+        ≡ map is_recoverable (slice_chunk entries.now size number)) }
 {
-    match entries.get(place) {
-        Some(entry) => is_recoverable(alloc, &mut Scratch::new(alloc), entry),
-        None => Ok(false),
+    let range = entries.after(number.saturating_mul(size).min(entries.len()));
+    let count = range.len().min(size);
+    let mut flags = Vec::with_capacity(alloc, count)?;
+    let mut scratch = Scratch::new(alloc);
+    for i in 0..count {
+        flags.push(is_recoverable(alloc, &mut scratch, range.at(i))?)?;
     }
+    Ok(flags)
 }
 
 /// Whether the entry is an event that a server sends again.

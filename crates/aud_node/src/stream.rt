@@ -8,9 +8,12 @@ ghost use Rattle.aud_node.specs.Private.NextPosition.{next_position};
 ghost use Rattle.aud_node.specs.Addressees.{positions_excepting, positions_to_all, positions_to_room};
 ghost use Rattle.aud_node.specs.Known.{known_entry};
 ghost use Rattle.aud_node.specs.Private.KnownIndex.{found_by_offset};
+ghost use Rattle.aud_node.specs.Private.AddresseeIndex.{HoldsAddressees};
+ghost use Rattle.aud_node.specs.Private.StreamIndex.{HoldsTexts};
 ghost use Rattle.aud_tap.specs.declared.records.StreamRec.TheVariants.{Ev};
 
 use crate::addressees::Addressees;
+use crate::both::both;
 use crate::known::{KnownEvent, KnownTexts, ending, hint_of, is_sent_as};
 use crate::offsets::Offsets;
 use crate::rest::Rest;
@@ -19,6 +22,7 @@ use aud_tap::StreamRec;
 use std::alloc::{AllocError, Global};
 use std::hash::RandomState;
 use std::marker::Model;
+use std::thread::Threads;
 
 /// The stream's entries, borrowed; seen as their list. Positions count from 1.
 #[derive(Drop)]
@@ -55,17 +59,57 @@ impl<'a> Stream<'a> {
         requires { recoverable.items ≡ map is_recoverable entries }
         ensures { IfOk result (λ stream. stream ≡ entries.entry) }
     {
-        let offsets = Offsets::build(alloc, keys, &entries)?;
-        let addressees = Addressees::build(alloc, keys, &entries, &recoverable)?;
-        let (known, hints) = KnownTexts::build(alloc, keys, &entries, &recoverable, &offsets)?;
-        Ok(Stream {
+        let all = Flagged {
             entries,
-            offsets,
             recoverable,
+        };
+        let addressees = Addressees::build(alloc, keys, &all.entries, &all.recoverable)?;
+        let texts = Texts::build(alloc, keys, &all)?;
+        Ok(Stream::of(all, addressees, texts))
+    }
+
+    /// The same in two threads: one notes whom the entries are addressed to, and this one their offsets and texts.
+    pub(crate) fn build_in_two<H: Threads>(
+        rt: &H,
+        alloc: Global,
+        keys: RandomState,
+        entries: Rest<'a, StreamRec>,
+        recoverable: Vec<bool>,
+    ) -> Result<Stream<'a>, AllocError>
+        requires { recoverable.items ≡ map is_recoverable entries }
+        ensures { IfOk result (λ stream. stream ≡ entries.entry) }
+    {
+        let all = Flagged {
+            entries,
+            recoverable,
+        };
+        let (addressees, texts) = both(
+            rt,
+            &all,
+            |all: &Flagged<'_>| -> Result<Addressees<'_>, AllocError>
+                ensures { IfOk result (HoldsAddressees all.now.entries) }
+            { Addressees::build(alloc, keys, &all.entries, &all.recoverable) },
+            |all: &Flagged<'_>| -> Result<Texts<'_>, AllocError>
+                ensures { IfOk result (HoldsTexts all.now.entries) }
+            { Texts::build(alloc, keys, all) },
+        );
+        Ok(Stream::of(all, addressees?, texts?))
+    }
+
+    /// The stream of these entries, of which these are the indices.
+    fn of(all: Flagged<'a>, addressees: Addressees<'a>, texts: Texts<'a>) -> Stream<'a>
+        requires addressees { HoldsAddressees all.entries addressees }
+        requires texts { HoldsTexts all.entries texts }
+        ensures { result ≡ all.entry.entries }
+    {
+        Stream {
+            entries: all.entries,
+            offsets: texts.offsets,
+            recoverable: all.recoverable,
             addressees,
-            known,
-            hints,
-        })
+            known: texts.known,
+            hints: texts.hints,
+        }
     }
 
     /// The entries, borrowed for as long as the taps.
@@ -228,5 +272,42 @@ impl<'a> Stream<'a> {
             Some(position) if position > 0 && position - 1 == cursor => Some(position),
             _ => None,
         }
+    }
+}
+
+/// The entries, and of each whether it is recoverable.
+#[derive(Drop)]
+struct Flagged<'a> {
+    entries: Rest<'a, StreamRec>,
+    recoverable: Vec<bool>,
+    ghost flags_are: { recoverable.items ≡ map is_recoverable entries },
+}
+
+/// Where entries stand by their offsets, and by their texts.
+#[derive(Drop)]
+struct Texts<'a> {
+    offsets: Offsets<'a>,
+    known: KnownTexts<'a>,
+    hints: Hints,
+}
+
+impl<'a> Texts<'a> {
+    /// Where these entries stand.
+    fn build(alloc: Global, keys: RandomState, all: &Flagged<'a>) -> Result<Texts<'a>, AllocError>
+        ensures { IfOk result (HoldsTexts all.now.entries) }
+    {
+        let offsets = Offsets::build(alloc, keys, &all.entries)?;
+        let (known, hints) = KnownTexts::build(
+            alloc,
+            keys,
+            &all.entries,
+            &all.recoverable,
+            &offsets,
+        )?;
+        Ok(Texts {
+            offsets,
+            known,
+            hints,
+        })
     }
 }

@@ -14,7 +14,7 @@ use Rattle.aud_node.specs.Lists.{numbers_from}
 use Rattle.aud_node.specs.NodeTaps.{client_records, client_recs}
 use Rattle.aud_node.specs.Stream.{Text}
 use Rattle.aud_client.specs.Replies.{is_naming, naming_places}
-use Rattle.aud_node.proofs.Mapped.{at_all_places}
+use Rattle.aud_client.proofs.AtPlaces.{at_all_places}
 use Rattle.aud_parts.specs.LeftOut.{records_left, tap_left, tell_of}
 use Rattle.aud_laws.proofs.LeftOut.Logs.{left_of}
 

@@ -4,7 +4,8 @@ use Rattle.std.proofs.lemmas.Result.{IfOk-weaker}
 use Rattle.aud_base.specs.Lists.{numbers_from}
 use Rattle.aud_node.specs.NodeTaps.{client_recs}
 use Rattle.aud_client.specs.Received.{transcript_at, transcript_of}
-use Rattle.aud_node.proofs.Mapped.{mapped, at_all_places}
+use Rattle.aud_node.proofs.Mapped.{mapped}
+use Rattle.aud_client.proofs.AtPlaces.{at_all_places}
 use Rattle.aud_client.proofs.clients.transcripts_of.Goals as goal
 
 pub returns : goal.returns
