@@ -35,6 +35,9 @@ use std::hash::RandomState;
 use std::marker::Model;
 use std::thread::Threads;
 
+/// So few lines are read by one thread: to start others takes as long.
+const FEW: usize = 12_288;
+
 /// Reads the taps of the lines that it is given, one line at a time, and copies what it keeps. A text that stands in
 /// many records is shared by them, through a pool that is dropped with the reader. A line is read through memory that
 /// is kept from line to line, and that grows to the longest record.
@@ -111,9 +114,10 @@ impl BundleReader {
 
     /// Reads the next lines, up to the first that is refused: what [`line`](BundleReader::line) gives, line after line.
     ///
-    /// With 2 threads or more they are parsed in parts, which are shared out among at most so many threads, as
-    /// [`try_map`](aud_base::try_map) says; then their records are added in the lines' order. How many threads there
-    /// are changes nothing in what is given. Texts that stand in many records are then shared within a part alone.
+    /// With 2 threads or more, 12,288 lines or more are parsed in parts, which are shared out among at most so many
+    /// threads, as [`try_map`](aud_base::try_map) says; then their records are added in the lines' order. How many
+    /// threads there are changes nothing in what is given. Texts that stand in many records are then shared within a part
+    /// alone.
     pub fn lines<H: Threads + Sync>(
         &mut self,
         rt: &H,
@@ -132,7 +136,7 @@ impl BundleReader {
         let Ok(lines) = lines.lent() else {
             return refuse(&mut self.fault, ReadFault::Memory);
         };
-        if threads < 2 {
+        if threads < 2 || lines.len() < FEW {
             return self.each_line(&lines);
         }
         self.lines_in_parts(rt, threads, &lines)
