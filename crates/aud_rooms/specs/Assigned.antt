@@ -3,8 +3,9 @@ use Rattle.std.specs.Prelude.{ℕ, ◌+◌, ◌-◌, suc, List, [], ◌++◌, le
 use Rattle.std.specs.Option.{unwrap_or}
 use Rattle.std.specs.Coded.{Coded, code_by, coded×, coded_ℕ, coded_list}
 use Rattle.std.specs.FinSet as set
+use Rattle.aud_tap.specs.declared.records.NodeRec.{NodeRec}
 use Rattle.aud_node.specs.Stream.{Text}
-use Rattle.aud_rooms.specs.Rooms.{Rooms, own_room}
+use Rattle.aud_rooms.specs.Rooms.{Rooms, own_room, rooms_after}
 use Rattle.aud_rooms.specs.Spans.{RoomSpan, AreSpans}
 
 -- the rooms of each position past low, as far as positions are covered, and the rooms held now
@@ -32,6 +33,10 @@ with_joined room a = record a { held = set.insert a.held room }
 -- the room is held no longer
 abbrev pub with_left : Text → Assigned → Assigned
 with_left room a = record a { held = set.remove a.held room }
+
+-- the record changes the rooms held now, if it is the session's
+abbrev pub changed_by : Text → NodeRec → Assigned → Assigned
+changed_by pid rec a = record a { held = rooms_after pid a.held rec }
 
 -- the positions that aren't covered yet, up to this one, take the rooms held now
 abbrev pub covered_upto : ℕ → Assigned → Assigned

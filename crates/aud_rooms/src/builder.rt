@@ -2,10 +2,11 @@
 ghost use Rattle.std.specs.Prelude.{◌≡◌, OnOk, OnErr, IfOk, IsErr, MatchOption};
 ghost use Rattle.std.specs.Option.{option_map, is_some};
 ghost use Rattle.std.specs.Result.{is_ok};
-ghost use Rattle.aud_rooms.specs.Assigned.{Assigned, starting, with_joined, with_left, covered_upto, AreSpansOf};
+ghost use Rattle.aud_rooms.specs.Assigned.{Assigned, starting, with_joined, with_left, changed_by, covered_upto, AreSpansOf};
 
 use crate::building::Building;
 use crate::span::Span;
+use aud_tap::NodeRec;
 use std::alloc::{AllocError, Global};
 use std::marker::Model;
 
@@ -67,6 +68,21 @@ impl<'a> SpanBuilder<'a> {
         building.leave(room)?;
         self.building = Some(building);
         Ok(())
+    }
+
+    /// The room that a node's record joins or leaves is held from now on or no longer, if the record is of the session
+    /// with this pid; any other record changes nothing.
+    pub fn follow(&mut self, pid: &str, rec: &'a NodeRec) -> Result<(), AllocError>
+        ensures changed { OnOk result (self.new ≡ option_map (changed_by pid.now rec.now) self.old) }
+        ensures out_of_memory { OnErr result (self.new ≡ None) }
+    {
+        match rec {
+            NodeRec::Join { pid: other, room } if other.as_str() == pid => self.join(room.as_str()),
+            NodeRec::Leave { pid: other, room } if other.as_str() == pid => {
+                self.leave(room.as_str())
+            }
+            _ => Ok(()),
+        }
     }
 
     /// The positions that aren't covered yet, up to this one, take the rooms held now. This takes no memory.

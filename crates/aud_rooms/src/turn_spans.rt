@@ -6,13 +6,12 @@ ghost use Rattle.aud_node.specs.Stream.{Text};
 ghost use Rattle.aud_rooms.specs.Turns.{slice_of};
 ghost use Rattle.aud_rooms.specs.TurnPlaces.{IsWithin, IsInOrder};
 ghost use Rattle.aud_rooms.specs.Spans.{AreSpansOfTurns, first_low};
-ghost use Rattle.aud_rooms.specs.Private.Walk.{held_after_record, walked_record, walked_turn};
+ghost use Rattle.aud_rooms.specs.Private.Walk.{walked_record, walked_turn};
 
 use crate::builder::SpanBuilder;
 use crate::span::Span;
 use crate::turn_place::TurnPlace;
 use aud_node::Logs;
-use aud_tap::NodeRec;
 use std::alloc::{AllocError, Global};
 
 /// The spans of the turns of the session with this pid and sid: past the first turn's low, up to the greatest high,
@@ -87,23 +86,5 @@ fn walk_record<'a>(
         return Ok(());
     };
     builder.upto(cursor)?;
-    change_rooms(builder, pid, rec)
-}
-
-/// The room that the record joins or leaves, if it is the session's.
-fn change_rooms<'a>(
-    builder: &mut SpanBuilder<'a>,
-    pid: &str,
-    rec: &'a NodeRec,
-) -> Result<(), AllocError>
-    ensures { OnOk result (builder.new
-        ≡ option_map (held_after_record pid.now rec.now) builder.old) }
-{
-    match rec {
-        NodeRec::Join { pid: other, room } if other.as_str() == pid => builder.join(room.as_str()),
-        NodeRec::Leave { pid: other, room } if other.as_str() == pid => {
-            builder.leave(room.as_str())
-        }
-        _ => Ok(()),
-    }
+    builder.follow(pid, rec)
 }

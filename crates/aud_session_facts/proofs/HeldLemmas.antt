@@ -8,7 +8,7 @@ use Rattle.aud_node.specs.Cluster.{Cluster, node_log}
 use Rattle.aud_node.specs.Lists.{between, numbers_from}
 use Rattle.aud_node.specs.OwnRecords.{record_names}
 use Rattle.aud_node.specs.Stream.{Text}
-use Rattle.aud_rooms.specs.Assigned.{Assigned}
+use Rattle.aud_rooms.specs.Assigned.{Assigned, changed_by}
 use Rattle.aud_rooms.specs.Rooms.{Rooms}
 use Rattle.aud_rooms.specs.Turns.{Who, Turn, AreTurns, slice_of}
 use Rattle.aud_rooms.specs.TurnsDue.{rooms_at_end}
@@ -16,7 +16,7 @@ use Rattle.aud_base.proofs.Lists.{element_at, between-more, between-none}
 use Rattle.aud_rooms.proofs.OwnNumbers.{own_between-is}
 use Rattle.aud_rooms.proofs.Records.{other_rooms}
 use Rattle.aud_session_facts.specs.Missed.{rooms_after_all}
-use Rattle.aud_session_facts.specs.Held.{changed_by, changed_by_some, walked_record, walked_records, walked_turn, walked_turns}
+use Rattle.aud_session_facts.specs.Held.{changed_by_some, walked_record, walked_records, walked_turn, walked_turns}
 
 -- the same state with other rooms held
 abbrev holding : Assigned → Rooms → Assigned

@@ -3,14 +3,9 @@ use Rattle.std.specs.Prelude.{ℕ, List, [], ◌∷◌, Option, Some, None, slic
 use Rattle.aud_tap.specs.declared.records.NodeRec.{NodeRec}
 use Rattle.aud_node.specs.Stream.{Text}
 use Rattle.aud_node.specs.Cluster.{Cluster, node_log}
-use Rattle.aud_rooms.specs.Rooms.{rooms_after}
 use Rattle.aud_rooms.specs.Turns.{Turn}
 use Rattle.aud_rooms.specs.TurnPlaces.{own_between}
-use Rattle.aud_rooms.specs.Assigned.{Assigned}
-
--- the record changes the rooms held now
-abbrev pub changed_by : Text → NodeRec → Assigned → Assigned
-changed_by pid rec a = record a { held = rooms_after pid a.held rec }
+use Rattle.aud_rooms.specs.Assigned.{Assigned, changed_by}
 
 -- the record, if there is one, changes them
 abbrev pub changed_by_some : Text → Option NodeRec → Assigned → Assigned

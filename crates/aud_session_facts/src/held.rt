@@ -2,12 +2,11 @@
 ghost use Rattle.std.specs.Prelude.{◌≡◌, IfOk, OnOk, map, option_map};
 ghost use Rattle.aud_cert.specs.Certificate.{turn_at};
 ghost use Rattle.aud_rooms.specs.Assigned.{AreSpansOf, covered_upto, starting};
-ghost use Rattle.aud_session_facts.specs.Held.{changed_by, walked_record, walked_turn, walked_turns};
+ghost use Rattle.aud_session_facts.specs.Held.{walked_record, walked_turn, walked_turns};
 
 use aud_cert::{Turn, turn_place};
 use aud_node::Logs;
 use aud_rooms::{Span, SpanBuilder, TurnPlace};
-use aud_tap::NodeRec;
 use std::alloc::{AllocError, Global};
 
 /// The spans, past `after` up to `high`, of the rooms that the session with this pid and sid held after all of these
@@ -63,24 +62,7 @@ fn walk_record<'a>(
         return Ok(());
     };
     match log.recs().get(number) {
-        Some(rec) => change_rooms(builder, pid, rec),
+        Some(rec) => builder.follow(pid, rec),
         None => Ok(()),
-    }
-}
-
-/// The room that the record joins or leaves, if it is the session's.
-fn change_rooms<'a>(
-    builder: &mut SpanBuilder<'a>,
-    pid: &str,
-    rec: &'a NodeRec,
-) -> Result<(), AllocError>
-    ensures { OnOk result (builder.new ≡ option_map (changed_by pid.now rec.now) builder.old) }
-{
-    match rec {
-        NodeRec::Join { pid: other, room } if other.as_str() == pid => builder.join(room.as_str()),
-        NodeRec::Leave { pid: other, room } if other.as_str() == pid => {
-            builder.leave(room.as_str())
-        }
-        _ => Ok(()),
     }
 }

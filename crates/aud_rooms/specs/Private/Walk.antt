@@ -4,19 +4,14 @@ use Rattle.aud_tap.specs.declared.records.NodeRec.{NodeRec}
 use Rattle.aud_node.specs.Stream.{Text}
 use Rattle.aud_node.specs.Cluster.{Cluster, node_log}
 use Rattle.aud_node.specs.Cursors.{cursor_at}
-use Rattle.aud_rooms.specs.Rooms.{rooms_after}
 use Rattle.aud_rooms.specs.Turns.{Turn}
 use Rattle.aud_rooms.specs.TurnPlaces.{own_between}
-use Rattle.aud_rooms.specs.Assigned.{Assigned, covered_upto}
-
--- the record changes the rooms held now
-abbrev pub held_after_record : Text → NodeRec → Assigned → Assigned
-held_after_record pid rec a = record a { held = rooms_after pid a.held rec }
+use Rattle.aud_rooms.specs.Assigned.{Assigned, changed_by, covered_upto}
 
 -- the positions up to the cursor take the rooms held so far, and the record, if there is one, changes them
 abbrev pub at_cursor : Text → ℕ → Option NodeRec → Assigned → Assigned
 at_cursor pid cursor None a = a
-at_cursor pid cursor (Some rec) a = held_after_record pid rec (covered_upto cursor a)
+at_cursor pid cursor (Some rec) a = changed_by pid rec (covered_upto cursor a)
 
 -- the same for the node's record with this number, at the cursor after it
 abbrev pub walked_record : Cluster → ℕ → Text → ℕ → Assigned → Assigned
