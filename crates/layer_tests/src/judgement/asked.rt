@@ -14,6 +14,7 @@
 //! | `turn a 0 P` | a turn of the session `P` on this node, and the records in it of the session after it |
 //! | `spans` | the spans of the session `P`, by its turn 0 on `a` and its turn 1 on `b` |
 //! | `walked 1 +r 3 -r` | the spans of a session whose node's cursor comes to 1, which joins `r`, and leaves it at 3 |
+//! | `followed a` | the spans of the session `P`, with the sid `s1`, by the records of `a`, each at its number as the cursor |
 //! | `addressed / r` | the entries for a session in the namespace that was in `s1` and `r`, and left this room |
 //! | `due / 0 4 r:2-3` | the positions past 0 up to 4 that are due in the namespace by spans of these rooms |
 //! | `run 0.0 1.0` | whether these steps are a run, each by the numbers of its log and its record |
@@ -133,6 +134,7 @@ fn tell(recording: &Recording<'_>, alloc: Global, parts: &[&str], question: &str
         "turn" => turns::tell_turn(recording.logs(), of, out),
         "spans" => turns::tell_spans(recording.logs(), alloc, out),
         "walked" => rooms::tell_walked(alloc, of, out),
+        "followed" => rooms::tell_followed(recording.logs(), alloc, of, out),
         "addressed" => rooms::tell_addressed(recording.logs().stream(), alloc, of, out),
         "due" => rooms::tell_due(recording.logs().stream(), alloc, of, out),
         "run" => runs::tell_run(recording.logs(), alloc, of, out),

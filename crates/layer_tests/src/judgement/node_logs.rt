@@ -116,7 +116,7 @@ pub fn tell_named(logs: &Logs<'_>, out: &mut Told) {
 }
 
 /// The node's log with this name.
-fn log_named<'l, 'a>(logs: &'l Logs<'a>, name: &str) -> Option<&'l NodeLog<'a>> {
+pub fn log_named<'l, 'a>(logs: &'l Logs<'a>, name: &str) -> Option<&'l NodeLog<'a>> {
     logs.node(logs.place_of(name)?)
 }
 

@@ -1,16 +1,31 @@
 //! The rooms of a session: whom entries are addressed to, spans, and what is due by these.
 use crate::judgement::asked::{assert_answers, cut, number};
+use crate::judgement::node_logs::log_named;
 use crate::judgement::told::Told;
-use aud_node::Stream;
+use aud_node::{Logs, Recs, Stream};
 use aud_rooms::{RoomSet, Span, SpanBuilder, addressed, due_of};
 use std::alloc::{AllocError, Global};
 use std::borrow::CowStr;
 use std::test::Fail;
 
-static CASES: [&str; 6] = [
+static CASES: [&str; 7] = [
     r#"
 ? walked 1 +r 3 -r +q 4
 q 4..4 r 2..3 s1 1..4 "#,
+    // What another session joins and leaves changes nothing.
+    r#"
+st {"k":"tap","v":1,"of":"stream"}
+a {"k":"tap","v":1,"of":"node"}
+a {"k":"start","off":null}
+a {"k":"open","pid":"P","sid":"s1","nsp":"/"}
+a {"k":"open","pid":"Q","sid":"s2","nsp":"/"}
+a {"k":"join","pid":"P","room":"r"}
+a {"k":"join","pid":"Q","room":"t"}
+a {"k":"leave","pid":"Q","room":"r"}
+a {"k":"leave","pid":"P","room":"r"}
+a {"k":"join","pid":"P","room":"q"}
+? followed a
+q 8..8 r 4..6 s1 1..8 "#,
     r#"
 st {"k":"tap","v":1,"of":"stream"}
 st {"k":"ev","off":"1-0","nsp":"/","rooms":["r"],"text":"2[\"hi\",\"1-0\"]"}
@@ -97,6 +112,29 @@ fn walk<'a>(builder: &mut SpanBuilder<'a>, word: &'a str) -> Result<(), AllocErr
         (_, Some(room)) => builder.leave(room),
         _ => builder.upto(number(word)),
     }
+}
+
+/// The spans of the session `P` by the records of this node, each of which stands at the position of its number.
+pub fn tell_followed(logs: &Logs<'_>, alloc: Global, name: &str, out: &mut Told) {
+    let Some(log) = log_named(logs, name) else {
+        return out.text("no node");
+    };
+    match followed(alloc, log.recs()) {
+        Ok(spans) => tell_spans_of(&spans, out),
+        Err(_) => out.fail(),
+    }
+}
+
+fn followed<'a>(alloc: Global, recs: Recs<'a>) -> Result<Vec<Span<'a>>, AllocError> {
+    let mut builder = SpanBuilder::new(alloc, "s1", 0)?;
+    for number in 0..recs.len() {
+        builder.upto(number as u64)?;
+        if let Some(rec) = recs.get(number) {
+            builder.follow("P", rec)?;
+        }
+    }
+    builder.upto(recs.len() as u64)?;
+    builder.finish()
 }
 
 /// Each room with its first and last position.
