@@ -220,9 +220,9 @@ impl BundleReader {
             → taps_to_come self.new more ≡ taps_to_come self.old (line.now ∷ more) }
     {
         match own {
-            OwnRecord::Placed { place, rec } => self.add_record(line, place, rec),
+            OwnRecord::Placed { place, rec } => self.add_record(line, place as usize, rec),
             OwnRecord::Named { name, rec } => match self.taps.place(name.as_str()) {
-                Some(place) => self.add_record(line, place, rec),
+                Some(place) => self.add_record(line, place, Box::into_inner(rec)),
                 None => self.line(line),
             },
             OwnRecord::NoRecord => self.line(line),

@@ -17,7 +17,7 @@ use super::stream_log::StreamLog;
 use crate::fault::{HEADER_TWICE, LineFault, UNKNOWN_KIND};
 use aud_base::TextPool;
 use aud_json::Fields;
-use aud_tap::{NodeRecs, Records, Tap, TapKind, Text, Version};
+use aud_tap::{NodeRecs, Rec, Records, Tap, TapKind, Text, Version};
 use std::alloc::{AllocError, Global};
 use std::collections::HashSet;
 use std::hash::RandomState;
@@ -87,15 +87,13 @@ impl OpenLog {
             → OnOk result (HasPids pids.new (before ++ pids_in (records_so_far self.new)
             ++ after)) }
     {
-        match (self, rec) {
-            (OpenLog::Stream(entries), PackedRec::Stream(entry)) => {
-                entries.push(Box::into_inner(entry))
-            }
-            (OpenLog::Node(records), PackedRec::Node(rec)) => {
+        match (self, rec.unpacked()) {
+            (OpenLog::Stream(entries), Rec::Stream(entry)) => entries.push(entry),
+            (OpenLog::Node(records), Rec::Node(rec)) => {
                 push_node_record(version, records, pids, rec)
             }
-            (OpenLog::Client(records), PackedRec::Client(rec)) => records.push(rec),
-            (_, PackedRec::Header { .. }) => Err(HEADER_TWICE),
+            (OpenLog::Client(records), Rec::Client(rec)) => records.push(rec),
+            (_, Rec::Header { .. }) => Err(HEADER_TWICE),
             _ => Err(UNKNOWN_KIND),
         }
     }

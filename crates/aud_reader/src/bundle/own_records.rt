@@ -1,13 +1,17 @@
 //! What lines say by themselves, read in many threads.
-ghost use Rattle.std.specs.Prelude.{◌≡◌, ℕ, List, IfOk, MatchResult};
+ghost use Rattle.std.specs.Prelude.{◌≡◌, ℕ, List, IfOk, MatchResult, Some, Result, Ok};
 ghost use Rattle.std.specs.List.{AllZip, flat_map};
 ghost use Rattle.aud_json.specs.View.{view};
 ghost use Rattle.aud_reader.specs.Record.{line_record, value_record};
 ghost use Rattle.aud_reader.specs.Steps.{Fails};
+ghost use Rattle.aud_reader.specs.declared.fault.InputCode.{InputCode};
+ghost use Rattle.aud_tap.specs.declared.records.Rec.{Rec};
 ghost use Rattle.aud_tap.specs.declared.taps.Tap.{Tap};
+ghost use Rattle.aud_tap.specs.Names.{place_of};
 ghost use Rattle.aud_reader.specs.Private.Kept.{KeepsTaps};
 ghost use Rattle.aud_reader.specs.Private.KnownLine.{IsOfTapAt};
 ghost use Rattle.aud_reader.specs.Private.OwnRecords.{AreOfLines, IsOfLine, IsOwnOf, with_name};
+ghost use Rattle.aud_reader.specs.Private.Packed.{rec_of};
 ghost use Rattle.aud_reader.specs.SoFar.{taps_so_far};
 
 use super::open_taps::OpenTaps;
@@ -21,6 +25,7 @@ use aud_json::{Fields, Scratch};
 use aud_tap::Text;
 use std::alloc::{AllocError, Global};
 use std::hash::RandomState;
+use std::mem::size_of;
 use std::thread::Threads;
 
 /// How many lines are read in one piece of work.
@@ -29,15 +34,32 @@ const PART: usize = 1_024;
 /// The bytes by which a thread's heap is to grow before a part: those of the records of several.
 const ROOM: usize = 8_388_608;
 
-/// What a line says by itself.
+/// What a line says by itself, in 48 bytes: one thread takes them all, and waits for each that others have written.
 #[derive(Drop)]
 pub enum OwnRecord {
     /// The record of a line whose tap stands at this place.
-    Placed { place: usize, rec: PackedRec },
+    Placed { place: u32, rec: PackedRec },
     /// The name and the record of a line whose tap was not there when the lines were parsed.
-    Named { name: Text, rec: PackedRec },
-    /// The line has no bytes, or is refused for what it says by itself.
+    Named { name: Text, rec: Box<PackedRec> },
+    /// The line is read again: it has no bytes, or is refused for what it says by itself, or its tap's place takes more
+    /// than 32 bits.
     NoRecord,
+}
+
+const _: () = prove!(size_of::<OwnRecord>() == 48);
+
+impl OwnRecord {
+    /// The record of a line whose tap stands at a place.
+    fn at_place(place: usize, rec: PackedRec) -> OwnRecord
+        ensures { (taps : List Tap) (reading : Result (List ℕ × Rec) InputCode) (name : List ℕ)
+            → reading ≡ Ok (name, rec_of rec) → place_of taps name ≡ Some place
+            → IsOwnOf taps reading result }
+    {
+        match u32::try_from(place) {
+            Ok(place) => OwnRecord::Placed { place, rec },
+            Err(_) => OwnRecord::NoRecord,
+        }
+    }
 }
 
 /// The record of the fields after a tap's name, of which the texts are shared with the pool. The name is kept only
@@ -56,9 +78,10 @@ fn placed_record(
 {
     let rec = PackedRec::new(alloc, value_record(alloc, pool, d)?)?;
     match taps.place(name) {
-        Some(place) => Ok(OwnRecord::Placed { place, rec }),
+        Some(place) => Ok(OwnRecord::at_place(place, rec)),
         None => {
             let name = pool.text(name)?;
+            let rec = Box::new(alloc, rec)?;
             Ok(OwnRecord::Named { name, rec })
         }
     }
@@ -77,7 +100,7 @@ fn known_record(
 {
     let d = json(alloc, scratch, text)?;
     let rec = PackedRec::new(alloc, value_record(alloc, pool, &d)?)?;
-    Ok(OwnRecord::Placed { place, rec })
+    Ok(OwnRecord::at_place(place, rec))
 }
 
 /// The record of a line that is not refused for what it says by itself. Its texts are shared with the pool.

@@ -155,10 +155,11 @@ fn item_text(pool: &mut TextPool, item: Option<&str>) -> Result<Text, LineFault>
     Ok(pool.text(text)?)
 }
 
+/// The texts that the items are, shared with the pool, in a list that has room for no others.
 fn texts(alloc: Global, pool: &mut TextPool, items: &[Option<&str>]) -> Result<Texts, LineFault>
     ensures { Gives result (need Field (all_items as_str (list_view items.now))) }
 {
-    let mut texts = Vec::new(alloc);
+    let mut texts = Vec::with_capacity(alloc, items.len())?;
     for item in items {
         let text = item_text(pool, *item)?;
         texts.push(text)?;
@@ -190,10 +191,11 @@ fn item_bytes(alloc: Global, item: Option<&str>) -> Result<Bytes, LineFault>
     decoded(alloc, text)
 }
 
+/// The bytes that the items spell, in a list that has room for no others.
 fn blobs(alloc: Global, items: &[Option<&str>]) -> Result<Blobs, LineFault>
     ensures { Gives result (need Field (all_items as_blob (list_view items.now))) }
 {
-    let mut blobs = Vec::new(alloc);
+    let mut blobs = Vec::with_capacity(alloc, items.len())?;
     for item in items {
         let bytes = item_bytes(alloc, *item)?;
         blobs.push(bytes)?;

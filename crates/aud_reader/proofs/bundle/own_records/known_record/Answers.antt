@@ -1,7 +1,6 @@
 use Rattle.std.proofs.Common.{Ok, Err, refl}
 use Rattle.std.proofs.lemmas.Result.{err_from_is_err_and}
 use Rattle.aud_json.specs.View.{view}
-use Rattle.aud_reader.specs.declared.bundle.own_records.OwnRecord.TheVariants.{Placed}
 use Rattle.aud_reader.proofs.KnownLines.{known-opens, known-unread}
 use Rattle.aud_reader.proofs.ShownRecords.{own-read}
 use Rattle.aud_reader.proofs.bundle.own_records.known_record.Goals as goal
@@ -21,4 +20,4 @@ returns-in_err-value_record c = λ taps line is.
 pub returns : goal.returns
 returns c = λ taps line is.
     let d = c.in_ok-d.ensures in
-    own-read line is.name d.0 (view c.in_ok-d.d) (known-opens taps line c.args.place c.args.text.now is d.0 d.1) d.2 taps (Ok (Placed c.args.place c.in_ok-rec.rec)) (is.name, rw (c.in_ok-value_record.ensures.reads, c.in_ok-rec.ensures) refl, is.at)
+    own-read line is.name d.0 (view c.in_ok-d.d) (known-opens taps line c.args.place c.args.text.now is d.0 d.1) d.2 taps (Ok c.at_place.result) (c.at_place.ensures taps _ is.name (rw (c.in_ok-value_record.ensures.reads, c.in_ok-rec.ensures) refl) is.at)

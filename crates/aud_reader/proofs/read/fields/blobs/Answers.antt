@@ -11,5 +11,5 @@ loop-item-preserved c =
 
 pub returns-in_err-bytes : goal.returns-in_err-bytes
 returns-in_err-bytes c =
-    let refused = err_from_is_err_and c.from_residual.result c.from_residual.ensures.1 in
+    let refused = err_from_is_err_and c.from_residual-in_err-bytes.result c.from_residual-in_err-bytes.ensures.1 in
     rw (refused.1, refused.2) (each-none as_blob _ _ _ c.loop-item.blobs.items _ _ c.loop-item-test.true c.loop-item.invariant c.in_err-bytes.ensures)

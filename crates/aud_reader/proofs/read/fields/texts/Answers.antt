@@ -11,5 +11,5 @@ loop-item-preserved c =
 
 pub returns-in_err-text : goal.returns-in_err-text
 returns-in_err-text c =
-    let refused = err_from_is_err_and c.from_residual.result c.from_residual.ensures.1 in
+    let refused = err_from_is_err_and c.from_residual-in_err-text.result c.from_residual-in_err-text.ensures.1 in
     rw (refused.1, refused.2) (each-none as_str _ _ _ c.loop-item.texts.items _ _ c.loop-item-test.true c.loop-item.invariant c.in_err-text.ensures)
