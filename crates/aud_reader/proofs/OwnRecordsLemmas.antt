@@ -6,7 +6,7 @@ use Rattle.aud_reader.specs.declared.fault.ReadFault.{ReadFault}
 use Rattle.aud_reader.specs.declared.fault.ReadFault.TheVariants.{Input}
 use Rattle.aud_reader.specs.declared.line.Line.{Line}
 use Rattle.aud_reader.specs.declared.bundle.own_records.OwnRecord.{OwnRecord}
-use Rattle.aud_reader.specs.declared.bundle.own_records.OwnRecord.TheVariants.{Placed, Named, NoRecord}
+use Rattle.aud_reader.specs.declared.bundle.own_records.OwnRecord.TheVariants.{Placed, Unplaced, NoRecord}
 use Rattle.aud_tap.specs.declared.records.Rec.{Rec}
 use Rattle.aud_tap.specs.declared.taps.Tap.{Tap}
 use Rattle.aud_reader.specs.Record.{opened_line, line_record}
@@ -66,7 +66,7 @@ kept-lines before after (line ∷ lines) e = λ name place had.
 -- what is kept of a line stays right where the places do
 own-kept : (before after : List Tap) (reading : Result (List ℕ × Rec) InputCode) (own : OwnRecord) → KeepsPlaces before after → IsOwnOf before reading own → IsOwnOf after reading own
 own-kept before after reading (Placed place rec) keeps own = (own.0, own.1, keeps own.0 place own.2)
-own-kept before after reading (Named name rec) keeps own = own
+own-kept before after reading (Unplaced rec) keeps own = own
 own-kept before after reading NoRecord keeps own = own
 
 module _ (before after : Reading) (lines : List Line) (none : before.fault ≡ None) (going : after.fault ≡ None) (reads : taps_to_come after [] ≡ taps_to_come before lines) where

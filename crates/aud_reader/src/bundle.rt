@@ -221,8 +221,8 @@ impl BundleReader {
     {
         match own {
             OwnRecord::Placed { place, rec } => self.add_record(line, place as usize, rec),
-            OwnRecord::Named { name, rec } => match self.taps.place(name.as_str()) {
-                Some(place) => self.add_record(line, place, Box::into_inner(rec)),
+            OwnRecord::Unplaced { rec } => match self.taps.known_line(line.bytes) {
+                Some((place, _)) => self.add_record(line, place, rec),
                 None => self.line(line),
             },
             OwnRecord::NoRecord => self.line(line),

@@ -1,10 +1,10 @@
 -- What lines say by themselves, read before their records are added to the taps.
-use Rattle.std.specs.Prelude.{◌≡◌, ℕ, List, Some, Result, Ok}
+use Rattle.std.specs.Prelude.{◌≡◌, ℕ, List, Some, Result, Ok, IsErr}
 use Rattle.std.specs.List.{AllZip}
 use Rattle.aud_reader.specs.declared.fault.InputCode.{InputCode}
 use Rattle.aud_reader.specs.declared.line.Line.{Line}
 use Rattle.aud_reader.specs.declared.bundle.own_records.OwnRecord.{OwnRecord}
-use Rattle.aud_reader.specs.declared.bundle.own_records.OwnRecord.TheVariants.{Placed, Named, NoRecord}
+use Rattle.aud_reader.specs.declared.bundle.own_records.OwnRecord.TheVariants.{Placed, Unplaced, NoRecord}
 use Rattle.aud_tap.specs.declared.records.Rec.{Rec}
 use Rattle.aud_tap.specs.declared.taps.Tap.{Tap}
 use Rattle.aud_base.specs.Steps.{◌>>=◌}
@@ -17,11 +17,11 @@ abbrev pub with_name : List ℕ → Result Rec InputCode → Result (List ℕ ×
 with_name name reading = reading >>= (λ rec. Ok (name, rec))
 
 -- what is kept of a line that is read so, beside these taps: its record, with the place of the tap that it names or
--- with the name; or nothing
+-- without; nothing where it is refused
 abbrev pub IsOwnOf : List Tap → Result (List ℕ × Rec) InputCode → OwnRecord → Type 0
 IsOwnOf taps reading (Placed place rec) = (name : List ℕ) × (reading ≡ Ok (name, rec_of rec)) × (place_of taps name ≡ Some place)
-IsOwnOf taps reading (Named name rec) = reading ≡ Ok (name, rec_of rec.value)
-IsOwnOf taps reading NoRecord = Unit
+IsOwnOf taps reading (Unplaced rec) = (name : List ℕ) × (reading ≡ Ok (name, rec_of rec))
+IsOwnOf taps reading NoRecord = IsErr reading
 
 -- what the line says by itself, with the place that its tap has among these
 abbrev pub IsOfLine : List Tap → Line → OwnRecord → Type 0

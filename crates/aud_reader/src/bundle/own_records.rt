@@ -22,7 +22,6 @@ use crate::read::line::{json, opened_line};
 use crate::read::record::value_record;
 use aud_base::{TextPool, make_room, try_map};
 use aud_json::{Fields, Scratch};
-use aud_tap::Text;
 use std::alloc::{AllocError, Global};
 use std::hash::RandomState;
 use std::mem::size_of;
@@ -39,10 +38,10 @@ const ROOM: usize = 8_388_608;
 pub enum OwnRecord {
     /// The record of a line whose tap stands at this place.
     Placed { place: u32, rec: PackedRec },
-    /// The name and the record of a line whose tap was not there when the lines were parsed.
-    Named { name: Text, rec: Box<PackedRec> },
-    /// The line is read again: it has no bytes, or is refused for what it says by itself, or its tap's place takes more
-    /// than 32 bits.
+    /// The record of a line whose tap was not there when the lines were parsed, or stands at a place of more than 32
+    /// bits: the line names it.
+    Unplaced { rec: PackedRec },
+    /// The line has no bytes, or is refused for what it says by itself.
     NoRecord,
 }
 
@@ -57,13 +56,12 @@ impl OwnRecord {
     {
         match u32::try_from(place) {
             Ok(place) => OwnRecord::Placed { place, rec },
-            Err(_) => OwnRecord::NoRecord,
+            Err(_) => OwnRecord::Unplaced { rec },
         }
     }
 }
 
-/// The record of the fields after a tap's name, of which the texts are shared with the pool. The name is kept only
-/// where it is none of the taps'.
+/// The record of the fields after a tap's name, of which the texts are shared with the pool.
 fn placed_record(
     alloc: Global,
     taps: &OpenTaps,
@@ -79,11 +77,7 @@ fn placed_record(
     let rec = PackedRec::new(alloc, value_record(alloc, pool, d)?)?;
     match taps.place(name) {
         Some(place) => Ok(OwnRecord::at_place(place, rec)),
-        None => {
-            let name = pool.text(name)?;
-            let rec = Box::new(alloc, rec)?;
-            Ok(OwnRecord::Named { name, rec })
-        }
+        None => Ok(OwnRecord::Unplaced { rec }),
     }
 }
 
