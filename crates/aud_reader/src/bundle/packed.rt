@@ -57,6 +57,7 @@ impl PackedRec {
     }
 
     /// The record that this one is.
+    #[inline(always)]
     pub fn unpacked(self) -> Rec
         ensures { result ≡ rec_of self }
     {

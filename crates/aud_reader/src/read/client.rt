@@ -10,11 +10,20 @@ use aud_json::Fields;
 use aud_tap::{ClientRec, Text};
 use std::alloc::Global;
 
+/// A text from the server, shared with the pool: several clients receive the same event.
 fn message(pool: &mut TextPool, d: &Fields<'_>) -> Result<Text, LineFault>
     ensures { Gives result (message_of (view d.now)) }
 {
     let t = text_at("t", d)?;
     Ok(pool.text(t)?)
+}
+
+/// A text of the client, which hardly comes again.
+fn sent(alloc: Global, d: &Fields<'_>) -> Result<Text, LineFault>
+    ensures { Gives result (message_of (view d.now)) }
+{
+    let t = text_at("t", d)?;
+    Ok(Text::new(alloc, t)?)
 }
 
 /// The client's record of this kind.
@@ -40,9 +49,7 @@ pub fn client_record(
         "poll" => Ok(ClientRec::Poll {
             t: message(pool, d)?,
         }),
-        "out" => Ok(ClientRec::TextOut {
-            t: message(pool, d)?,
-        }),
+        "out" => Ok(ClientRec::TextOut { t: sent(alloc, d)? }),
         "lost" => Ok(ClientRec::Lost),
         _ => Err(UNKNOWN_KIND),
     }
