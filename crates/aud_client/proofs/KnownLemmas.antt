@@ -17,8 +17,9 @@ use Rattle.aud_client.specs.TapPackets.{FromServer}
 use Rattle.aud_client.specs.Replies.{ReplySeen, is_connect_kind}
 use Rattle.aud_client.specs.StaySeen.{FrameSeen, StaySeen, frame_at, frame_of, offset_in, recoverable_position, reply_at}
 use Rattle.aud_client.specs.declared.part.Part.TheVariants as part
-use Rattle.aud_client.specs.Private.Kept.{grown, part_of}
+use Rattle.aud_client.specs.Private.Kept.{frame_part, grown, part_of, with_frame}
 use Rattle.aud_client.proofs.Telling.{no_reply_at}
+use Rattle.aud_client.proofs.TellingPlaces.{framed_grown}
 
 -- an event is no CONNECT, and no DISCONNECT
 pub event_begins_nothing : (k : PacketKind) → is_event k ≡ true → is_connect_kind k ≡ false
@@ -43,29 +44,20 @@ module _ (event : Event) (alone : is_sent_alone event ≡ true) where
       ∙ ap (λ id. cond (is_none id) (spelled event.text).packet.last None) (sent_alone event alone).id_is
       ∙ (sent_alone event alone).last_is
 
+  -- it is no reply
+  pub known_no_reply : reply_at (FromServer (spelled event.text)) ≡ None
+  known_no_reply =
+      no_reply_at (FromServer (spelled event.text)) (ap (λ b. b && true) (event_begins_nothing (spelled event.text).packet.kind (sent_alone event alone).kind_is))
+
   -- the frame is that of the recoverable entry with the event's offset
-  pub known_frame : (stream : List StreamRec) → frame_of stream (FromServer (spelled event.text)) ≡ option_map (frame_at (spelled event.text)) (recoverable_position stream event.off)
-  known_frame stream = ap (λ off. option_map (frame_at (spelled event.text)) (option_and_then (recoverable_position stream) off)) known_offset
+  pub known_frame : (stream : List StreamRec) (p : Option ℕ) → p ≡ recoverable_position stream event.off → option_map (frame_at (spelled event.text)) p ≡ frame_of stream (FromServer (spelled event.text))
+  known_frame stream p found =
+      ap (option_map (frame_at (spelled event.text))) found ∙ sym (ap (λ off. option_map (frame_at (spelled event.text)) (option_and_then (recoverable_position stream) off)) known_offset)
 
-  -- the frame at a position that was found
-  pub known_at : (stream : List StreamRec) (p : ℕ) (text : List ℕ) (blobs : List BlobCode) → text ≡ event.text → blobs ≡ [] → Some p ≡ recoverable_position stream event.off
-      → Some (record { position = p; text = text; bin = map blob_bytes (map blob_view blobs) }) ≡ frame_of stream (FromServer (spelled event.text))
-  known_at stream p text blobs is none found =
-      let frame : List ℕ → List BlobCode → FrameSeen = λ t bs. record { position = p; text = t; bin = map blob_bytes (map blob_view bs) } in
-      ap (λ t. Some (frame t blobs)) is ∙ ap (λ bs. Some (frame event.text bs)) none ∙ ap (option_map (frame_at (spelled event.text))) found ∙ sym (known_frame stream)
-
-  -- it is no reply, and asks for nothing: a stay has the frame more
-  pub known_grown : (stream : List StreamRec) (t : StaySeen)
-      → record t { frames = t.frames ++ cons_option (frame_of stream (FromServer (spelled event.text))) [] } ≡ grown stream t (FromServer (spelled event.text))
-  known_grown stream t =
-      let connects = event_begins_nothing (spelled event.text).packet.kind (sent_alone event alone).kind_is in
-      let none : reply_at (FromServer (spelled event.text)) ≡ None = no_reply_at (FromServer (spelled event.text)) (ap (λ b. b && true) connects) in
-      ap (λ reply. record t { reply = option_or reply t.reply; frames = t.frames ++ cons_option (frame_of stream (FromServer (spelled event.text))) [] }) (sym none)
+  -- it asks for nothing: a stay has the frame more
+  pub known_grown : (stream : List StreamRec) (t : StaySeen) → with_frame stream t (frame_of stream (FromServer (spelled event.text))) ≡ grown stream t (FromServer (spelled event.text))
+  known_grown stream t = framed_grown stream t (spelled event.text) known_no_reply
 
   -- it is a frame, or nothing to its stay
-  pub known_part : (stream : List StreamRec)
-      → cond (is_some (frame_of stream (FromServer (spelled event.text)))) part.Frame part.Other ≡ part_of stream (FromServer (spelled event.text))
-  known_part stream =
-      let connects = event_begins_nothing (spelled event.text).packet.kind (sent_alone event alone).kind_is in
-      let none : reply_at (FromServer (spelled event.text)) ≡ None = no_reply_at (FromServer (spelled event.text)) (ap (λ b. b && true) connects) in
-      ap (λ (reply : Option ReplySeen). cond (is_some reply) part.Reply (cond (is_some (frame_of stream (FromServer (spelled event.text)))) part.Frame part.Other)) (sym none)
+  pub known_part : (stream : List StreamRec) → frame_part (frame_of stream (FromServer (spelled event.text))) ≡ part_of stream (FromServer (spelled event.text))
+  known_part stream = ap (λ (reply : Option ReplySeen). cond (is_some reply) part.Reply (frame_part (frame_of stream (FromServer (spelled event.text))))) (sym known_no_reply)

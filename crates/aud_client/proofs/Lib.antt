@@ -11,6 +11,7 @@ pub mod Numbers
 pub mod ReadLemmas
 pub mod ConnectionLemmas
 pub mod ClientLemmas
+pub mod EntryLemmas
 pub mod ClientTaps
 pub mod KnownLemmas
 pub mod KeptRecords
@@ -22,3 +23,4 @@ pub mod TellingPlaces
 pub mod KeptPlaces
 pub mod Giving
 pub mod AtPlaces
+pub mod Altered

@@ -1,17 +1,19 @@
 -- What is known of a stay with one packet more.
-use Rattle.std.proofs.Common.{◌≡◌, ℕ, true, false, List, [], ◌∷◌, ◌++◌, refl, sym, ap, ◌∙◌, arith, Option, Some, None, is_some}
+use Rattle.std.proofs.Common.{◌≡◌, ℕ, Bool, true, false, not, ◌||◌, List, [], ◌∷◌, ◌++◌, refl, sym, ap, ◌∙◌, arith, Option, Some, None, is_some}
 use Rattle.std.specs.List.{list_any, filter_map, cons_option}
 use Rattle.std.specs.Option.{option_or}
 use Rattle.std.proofs.lemmas.Bool.{false≢true}
 use Rattle.std.proofs.lemmas.List.{append-nil}
 use Rattle.std.proofs.lemmas.List.Elements.{filter_map-append}
+use Rattle.std.proofs.lemmas.List.Folds.{list_any-append}
 use Rattle.aud_base.proofs.Options.{or_none}
 use Rattle.aud_tap.specs.declared.records.StreamRec.{StreamRec}
 use Rattle.aud_node.specs.Stream.{Text}
 use Rattle.aud_client.specs.TapPackets.{TapPacket, FromServer, FromClient}
 use Rattle.aud_client.specs.Replies.{ReplySeen}
 use Rattle.aud_client.specs.Stays.{namespace, is_connect, is_reply, goes_on}
-use Rattle.aud_client.specs.StaySeen.{AskedSeen, FrameSeen, StaySeen, stay_of, reply_at, reply_of, before_reply, ask_of, last_of, asked_of, frame_of}
+use Rattle.aud_client.specs.StaySeen.{AskedSeen, FrameSeen, StaySeen, stay_of, reply_at, reply_of, before_reply, ask_of, last_of, asked_of, frame_of, frames_of}
+use Rattle.aud_client.specs.Entries.{has_altered, is_entry}
 use Rattle.aud_client.specs.Private.Kept.{empty_stay, grown}
 
 -- ---- one packet
@@ -38,9 +40,18 @@ no_ask (FromClient packet) e = grind arith
 -- ---- a stay, and one packet more
 
 -- stays that tell the same
-same_stays : (c : ℕ) (n : Text) (r u : Option ReplySeen) (a b : Option AskedSeen) (f g : List FrameSeen) → r ≡ u → a ≡ b → f ≡ g
-    → ◌≡◌ {A = StaySeen} (record { c = c; nsp = n; reply = r; asked = a; frames = f }) (record { c = c; nsp = n; reply = u; asked = b; frames = g })
-same_stays c n r u a b f g q v w = λ i. record { c = c; nsp = n; reply = q i; asked = v i; frames = w i }
+same_stays : (c : ℕ) (n : Text) (r u : Option ReplySeen) (a b : Option AskedSeen) (f g : List FrameSeen) (d e : Bool) → r ≡ u → a ≡ b → f ≡ g → d ≡ e
+    → ◌≡◌ {A = StaySeen} (record { c = c; nsp = n; reply = r; asked = a; frames = f; altered = d }) (record { c = c; nsp = n; reply = u; asked = b; frames = g; altered = e })
+same_stays c n r u a b f g d e q v w x = λ i. record { c = c; nsp = n; reply = q i; asked = v i; frames = w i; altered = x i }
+
+-- the frames, and whether one of them is altered, with one packet more
+frames-more : (stream : List StreamRec) (s : List TapPacket) (p : TapPacket) → frames_of stream (s ++ p ∷ []) ≡ frames_of stream s ++ cons_option (frame_of stream p) []
+frames-more stream s p = filter_map-append (frame_of stream) s (p ∷ [])
+
+altered-more : (stream : List StreamRec) (s : List TapPacket) (p : TapPacket)
+    → has_altered stream (frames_of stream (s ++ p ∷ [])) ≡ (has_altered stream (frames_of stream s) || has_altered stream (cons_option (frame_of stream p) []))
+altered-more stream s p =
+    ap (has_altered stream) (frames-more stream s p) ∙ list_any-append (λ frame. not (is_entry stream frame)) (frames_of stream s) (cons_option (frame_of stream p) [])
 
 -- the last, with one more
 last_of-more : (xs : List AskedSeen) (y : AskedSeen) → last_of (xs ++ y ∷ []) ≡ Some y
@@ -81,7 +92,7 @@ asked-after s p = grind (arith, asked-more s p (ask_of p) refl, no_ask-reply p, 
 -- a stay of one packet
 pub stay_of-first : (stream : List StreamRec) (c : ℕ) (p : TapPacket) → stay_of stream c (p ∷ []) ≡ grown stream (empty_stay c (namespace p)) p
 stay_of-first stream c p =
-    same_stays c (namespace p) _ _ _ _ _ _ (reply_of-one p ∙ sym (or_none (reply_at p))) (asked-after [] p) (filter_map-append (frame_of stream) [] (p ∷ []))
+    same_stays c (namespace p) _ _ _ _ _ _ _ _ (reply_of-one p ∙ sym (or_none (reply_at p))) (asked-after [] p) (frames-more stream [] p) (altered-more stream [] p)
 
 -- after a reply no CONNECT goes on
 pub no_connect : (s : List TapPacket) (p : TapPacket) → goes_on s p ≡ true → list_any is_reply s ≡ true → is_connect p ≡ false
@@ -101,4 +112,4 @@ pub stay_of-more : (stream : List StreamRec) (c : ℕ) (s : List TapPacket) (p :
     → stay_of stream c (s ++ p ∷ []) ≡ grown stream (stay_of stream c s) p
 stay_of-more stream c [] p e = absurd (false≢true e)
 stay_of-more stream c (x ∷ xs) p e =
-    same_stays c (namespace x) _ _ _ _ _ _ (reply-more (x ∷ xs) p e) (asked-next (x ∷ xs) p e) (filter_map-append (frame_of stream) (x ∷ xs) (p ∷ []))
+    same_stays c (namespace x) _ _ _ _ _ _ _ _ (reply-more (x ∷ xs) p e) (asked-next (x ∷ xs) p e) (frames-more stream (x ∷ xs) p) (altered-more stream (x ∷ xs) p)

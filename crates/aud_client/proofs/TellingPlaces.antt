@@ -2,6 +2,7 @@
 use Rattle.std.proofs.Common.{◌≡◌, ℕ, Bool, true, false, ◌&&◌, cond, List, [], ◌∷◌, ◌++◌, refl, sym, ap, ◌∙◌, arith, append-nil, Option, Some, None, is_some, is_none, unwrap_or}
 use Rattle.std.specs.List.{list_any, cons_option}
 use Rattle.std.specs.Option.{option_or, option_map, option_and_then}
+use Rattle.std.proofs.Math.Bool.{or-false}
 use Rattle.std.proofs.lemmas.Bool.{false≢true}
 use Rattle.std.proofs.lemmas.List.{map-append}
 use Rattle.std.proofs.lemmas.List.Elements.{filter_map-append}
@@ -15,13 +16,14 @@ use Rattle.aud_sio.specs.Packet.{PacketSeen}
 use Rattle.aud_sio.specs.Wholes.{WholeSeen}
 use Rattle.aud_client.specs.Replies.{ReplySeen, is_connect_kind, reply_in}
 use Rattle.aud_base.proofs.Options.{or_none}
+use Rattle.aud_client.specs.Entries.{FrameSeen}
 use Rattle.aud_client.specs.StaySeen.{AskedSeen, StaySeen, reply_at, asked_in, ask_of, frame_at, frame_of, recoverable_position}
 use Rattle.aud_client.proofs.Telling.{no_reply_at, reply_at-some, no_ask-reply}
 use Rattle.aud_client.proofs.ClientLemmas.{first_of-append}
 use Rattle.aud_client.specs.PlacedStays.{PlacedPacket, forgotten, goes_on_placed}
 use Rattle.aud_client.specs.StayPlaces.{PlacesSeen, record_of, records_of, last_number, placed_before_reply, numbers_in, places_of}
 use Rattle.aud_client.specs.declared.part.Part.TheVariants as part
-use Rattle.aud_client.specs.Private.Kept.{grown, no_places, ask_after, grown_places, part_of, with_part}
+use Rattle.aud_client.specs.Private.Kept.{grown, no_places, ask_after, grown_places, part_of, with_frame, with_part}
 
 -- ---- the first and the last number
 
@@ -150,14 +152,21 @@ pub grown_by : (stream : List StreamRec) (t : PlacesSeen) (q : PlacedPacket) →
 grown_by stream t (n, FromServer whole) = server_grows t n (reply_at (FromServer whole)) (frame_of stream (FromServer whole)) (no_frame stream (FromServer whole))
 grown_by stream t (n, FromClient packet) = client_grows t n (asked_in packet)
 
+-- a stay with no frame more
+unframed : (stream : List StreamRec) (t : StaySeen) (f : Option FrameSeen) → f ≡ None → t ≡ with_frame stream t f
+unframed stream t f none = (λ i. record t { frames = sym (append-nil t.frames) i; altered = sym (or-false t.altered) i }) ∙ ap (with_frame stream t) (sym none)
+
 -- a stay with its reply
 pub replied_grown : (stream : List StreamRec) (t : StaySeen) (whole : WholeSeen) (r : ReplySeen) → reply_in whole ≡ Some r → record t { reply = Some r } ≡ grown stream t (FromServer whole)
 replied_grown stream t whole r is =
-    let none = no_frame stream (FromServer whole) (ap is_some is) in
     ap (λ reply. record t { reply = option_or reply t.reply }) (sym is)
-    ∙ ap (λ frames. record t { reply = option_or (reply_in whole) t.reply; frames = frames }) (sym (append-nil t.frames) ∙ ap (λ f. t.frames ++ cons_option f []) (sym none))
+    ∙ ap (λ (u : StaySeen). record u { reply = option_or (reply_in whole) u.reply }) (unframed stream t (frame_of stream (FromServer whole)) (no_frame stream (FromServer whole) (ap is_some is)))
 
 -- a stay with what was asked
 pub asked_grown : (stream : List StreamRec) (t : StaySeen) (packet : PacketSeen) (o : Option AskedSeen) → asked_in packet ≡ o → record t { asked = option_or o t.asked } ≡ grown stream t (FromClient packet)
 asked_grown stream t packet o is =
-    ap (λ asked. record t { asked = option_or asked t.asked }) (sym is) ∙ ap (λ frames. record t { asked = option_or (asked_in packet) t.asked; frames = frames }) (sym (append-nil t.frames))
+    ap (λ asked. record t { asked = option_or asked t.asked }) (sym is) ∙ ap (λ (u : StaySeen). record u { asked = option_or (asked_in packet) u.asked }) (unframed stream t None refl)
+
+-- a stay with the frame of a packet of the server that is no reply, if it is one
+pub framed_grown : (stream : List StreamRec) (t : StaySeen) (whole : WholeSeen) → reply_at (FromServer whole) ≡ None → with_frame stream t (frame_of stream (FromServer whole)) ≡ grown stream t (FromServer whole)
+framed_grown stream t whole none = ap (λ (reply : Option ReplySeen). record (with_frame stream t (frame_of stream (FromServer whole))) { reply = option_or reply t.reply }) (sym none)

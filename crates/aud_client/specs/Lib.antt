@@ -3,6 +3,7 @@ pub mod TapPackets
 pub mod Seen
 pub mod Replies
 pub mod Stays
+pub mod Entries
 pub mod StaySeen
 pub mod PlacedStays
 pub mod StayPlaces

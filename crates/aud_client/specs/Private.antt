@@ -7,3 +7,4 @@ pub mod ConnectionRead
 pub mod Clients
 pub mod Told
 pub mod Ahead
+pub mod Bodies

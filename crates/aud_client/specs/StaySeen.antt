@@ -1,5 +1,5 @@
 -- What a stay tells.
-use Rattle.std.specs.Prelude.{ℕ, List, [], ◌∷◌, codes, map, ◌&&◌, Option, Some, None, is_none, if◌then◌else◌}
+use Rattle.std.specs.Prelude.{◌≡◌, ℕ, Bool, List, [], ◌∷◌, codes, map, ◌&&◌, Option, Some, None, is_none, if◌then◌else◌}
 use Rattle.std.specs.List.{filter_map}
 use Rattle.std.specs.Option.{option_map, option_and_then}
 use Rattle.serde_json.specs.Data.{Data}
@@ -15,25 +15,22 @@ use Rattle.aud_node.specs.AtPosition.{is_recoverable_at}
 use Rattle.aud_client.specs.TapPackets.{TapPacket, FromServer, FromClient}
 use Rattle.aud_client.specs.Replies.{ReplySeen, reply_in, value_of, is_connect_kind}
 use Rattle.aud_client.specs.Stays.{namespace, is_reply}
+use Rattle.aud_client.specs.Entries.{has_altered}
+pub use Rattle.aud_client.specs.Entries.{FrameSeen}
 
 -- what a client asks to recover: a session, and after which offset
 pub record AskedSeen : Type 0 where
   pub pid : Text
   pub offset : Option Text
 
--- an event that came: the position of its entry in the stream, its text, and its attachments
-pub record FrameSeen : Type 0 where
-  pub position : ℕ
-  pub text : Text
-  pub bin : List (List ℕ)
-
--- what is known of a stay; c is the number of its connection
+-- what is known of a stay; c is the number of its connection, and `altered` whether one of the frames isn't its entry
 pub record StaySeen : Type 0 where
   pub c : ℕ
   pub nsp : Text
   pub reply : Option ReplySeen
   pub asked : Option AskedSeen
   pub frames : List FrameSeen
+  pub altered : Bool
 
 -- ---- the reply
 
@@ -106,4 +103,15 @@ namespace_of (p ∷ ps) = namespace p
 -- what a stay in the connection with this number tells
 abbrev pub stay_of : List StreamRec → ℕ → List TapPacket → StaySeen
 stay_of stream c stay =
-    record { c = c; nsp = namespace_of stay; reply = reply_of stay; asked = asked_of stay; frames = frames_of stream stay }
+    record {
+      c = c;
+      nsp = namespace_of stay;
+      reply = reply_of stay;
+      asked = asked_of stay;
+      frames = frames_of stream stay;
+      altered = has_altered stream (frames_of stream stay);
+    }
+
+-- the stay tells truly, where this is the stream, whether one of its frames isn't its entry
+abbrev pub TellsAltered : List StreamRec → StaySeen → Type 0
+TellsAltered stream stay = stay.altered ≡ has_altered stream stay.frames

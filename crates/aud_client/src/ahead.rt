@@ -13,13 +13,13 @@ use aud_tap::ClientRec;
 use std::alloc::{AllocError, Global};
 
 /// Of each record the event of the stream that it carries as its text alone; none where it carries none that is known by
-/// its text, or where there is no stream.
+/// its text.
 pub fn known_in<'a>(
     alloc: Global,
-    stream: Option<&Stream<'a>>,
+    stream: &Stream<'a>,
     recs: &[ClientRec],
 ) -> Result<Vec<Option<KnownEvent<'a>>>, AllocError>
-    ensures { IfOk result (λ known. AllZip Carries recs.now known.items) }
+    ensures { IfOk result (λ known. AllZip (Carries stream.now) recs.now known.items) }
 {
     let guesses = guesses_at(alloc, stream, recs)?;
     let mut known = Vec::with_capacity(alloc, recs.len())?;
@@ -33,7 +33,7 @@ pub fn known_in<'a>(
 /// A guess at the event of each record.
 fn guesses_at(
     alloc: Global,
-    stream: Option<&Stream<'_>>,
+    stream: &Stream<'_>,
     recs: &[ClientRec],
 ) -> Result<Vec<Option<usize>>, AllocError> {
     let mut guesses = Vec::with_capacity(alloc, recs.len())?;
@@ -43,19 +43,19 @@ fn guesses_at(
     Ok(guesses)
 }
 
-fn guess_at(stream: Option<&Stream<'_>>, rec: &ClientRec) -> Option<usize> {
-    stream?.guess(message(rec)?)
+fn guess_at(stream: &Stream<'_>, rec: &ClientRec) -> Option<usize> {
+    stream.guess(message(rec)?)
 }
 
 /// The event that the record carries, which is looked for first where the guess says.
 fn known_by<'a>(
-    stream: Option<&Stream<'a>>,
+    stream: &Stream<'a>,
     rec: &ClientRec,
     guess: Option<usize>,
 ) -> Option<KnownEvent<'a>>
-    ensures { Carries rec.now result }
+    ensures { Carries stream.now rec.now result }
 {
-    stream?.known(message(rec)?, guess)
+    stream.known(message(rec)?, guess)
 }
 
 /// The text of the Engine.IO message that the record is, if it is a text from the server that has one.

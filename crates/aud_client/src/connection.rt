@@ -65,11 +65,15 @@ impl<'s, 'a> Reader<'s, 'a> {
         }
     }
 
-    /// Of each record the event of the stream that it carries as its text alone, where one is known by it.
-    pub fn known_in(&self, recs: &[ClientRec]) -> Result<Vec<Option<KnownEvent<'a>>>, AllocError>
-        ensures { IfOk result (λ known. AllZip Carries recs.now known.items) }
+    /// Of each record the event of this stream that it carries as its text alone, where one is known by it.
+    pub fn known_in(
+        &self,
+        stream: &Stream<'a>,
+        recs: &[ClientRec],
+    ) -> Result<Vec<Option<KnownEvent<'a>>>, AllocError>
+        ensures { IfOk result (λ known. AllZip (Carries stream.now) recs.now known.items) }
     {
-        known_in(self.alloc, self.stream, recs)
+        known_in(self.alloc, stream, recs)
     }
 
     /// The event that is known of a record, if no attachment is awaited: it is then all that the record gives.

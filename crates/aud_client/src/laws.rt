@@ -1,13 +1,13 @@
 //! Laws of stays, over the definitions alone.
 ghost use Rattle.std.specs.Prelude.{◌≡◌, List, flat_map, map, true};
-ghost use Rattle.std.specs.List.{AllZip, list_any};
+ghost use Rattle.std.specs.List.{All, AllZip};
 ghost use Rattle.aud_tap.specs.declared.records.StreamRec.{StreamRec};
 ghost use Rattle.aud_tap.specs.declared.records.ClientRec.{ClientRec};
 ghost use Rattle.aud_node.specs.Stream.{Text};
 ghost use Rattle.aud_client.specs.TapPackets.{Connection, tap_packets};
 ghost use Rattle.aud_client.specs.Replies.{tap_names};
 ghost use Rattle.aud_client.specs.Stays.{stays};
-ghost use Rattle.aud_client.specs.StaySeen.{stay_of};
+ghost use Rattle.aud_client.specs.StaySeen.{TellsAltered, stay_of};
 ghost use Rattle.aud_client.specs.PlacedStays.{PlacedPacket, forgotten, placed_stays};
 ghost use Rattle.aud_client.specs.AreRecordsOf.{AreRecordsOf, placed_packets};
 ghost use Rattle.aud_client.specs.Received.{transcript_of, tap_stays, received_list, stay_names_pid, stays_naming, are_in_namespace, frames_by_stay};
@@ -36,4 +36,13 @@ pub fn places_are_of_stays()
     ensures { (stream : List StreamRec) (recs : List ClientRec)
         → AllZip (AreRecordsOf stream (placed_packets recs)) (transcript_of stream recs).places
         (transcript_of stream recs).stays }
+{}
+
+/// What a tap tells of each of its stays, and so of each that names a session, is true: whether one of its frames isn't
+/// its entry.
+pub fn stays_tell_altered()
+    ensures all { (stream : List StreamRec) (recs : List ClientRec)
+        → All (TellsAltered stream) (tap_stays stream recs) }
+    ensures naming { (stream : List StreamRec) (recs : List ClientRec) (pid : Text)
+        → All (TellsAltered stream) (stays_naming pid (transcript_of stream recs).stays) }
 {}

@@ -16,7 +16,8 @@
 //! assert!(rt; stay.names("P"));
 //! let frame = stay.frames.first().ok_or("no frame")?;
 //! assert_eq!(rt; frame.position, 1);
-//! assert_eq!(rt; frame.text, r#"2["hi","1-0"]"#);
+//! assert_eq!(rt; frame.text(), r#"2["hi","1-0"]"#);
+//! assert!(rt; !stay.altered); // its frames are their entries
 //! let places = client.transcript().places.first().ok_or("no stay")?;
 //! assert_eq!(rt; places.reply, Some(1)); // its records are `conn`, the reply and the event
 //! assert_eq!(rt; places.frames.as_slice(), [2].as_slice());
@@ -46,9 +47,11 @@ mod transcript;
 pub use asked::Asked;
 pub use client_tap::{ClientTap, Connection};
 pub use connection::{Placed, TapPacket};
-pub use frame::Frame;
+pub use frame::{Frame, is_entry};
 pub use indexed_transcript::IndexedTranscript;
-pub use laws::{placed_stays_are_stays, places_are_of_stays, received_by_stays};
+pub use laws::{
+    placed_stays_are_stays, places_are_of_stays, received_by_stays, stays_tell_altered,
+};
 pub use recording::Recording;
 pub use replies::{Reply, reply_of};
 pub use stay::Stay;

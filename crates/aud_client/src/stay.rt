@@ -1,5 +1,5 @@
 //! A stay of a client in a namespace.
-ghost use Rattle.std.specs.Prelude.{◌≡◌, ◌++◌, List, [], IfOk, OnOk, if◌then◌else◌, is_some};
+ghost use Rattle.std.specs.Prelude.{◌≡◌, ◌++◌, ◌||◌, List, [], IfOk, OnOk, true};
 ghost use Rattle.std.specs.List.{cons_option};
 ghost use Rattle.std.specs.Option.{option_copied};
 ghost use Rattle.aud_tap.specs.declared.records.StreamRec.{StreamRec};
@@ -9,15 +9,17 @@ ghost use Rattle.aud_client.specs.TapPackets.{FromServer, FromClient};
 ghost use Rattle.aud_client.specs.Seen.{packet_seen};
 ghost use Rattle.aud_client.specs.Replies.{is_this};
 ghost use Rattle.aud_client.specs.Received.{stay_names_pid, is_recovered};
-ghost use Rattle.aud_client.specs.declared.part.Part.TheVariants as part;
-ghost use Rattle.aud_client.specs.Private.Kept.{empty_stay, grown, part_of};
+ghost use Rattle.aud_client.specs.StaySeen.{frame_of};
+ghost use Rattle.aud_client.specs.Private.Ahead.{IsFoundIn, StandsIn};
+ghost use Rattle.aud_client.specs.Private.Kept.{empty_stay, frame_part, grown, part_of, with_frame};
+ghost use Rattle.aud_node.specs.Known.{spelled};
 
 use crate::asked::{Asked, asked_in};
 use crate::connection::TapPacket;
-use crate::frame::{Frame, frame_of, known_frame};
+use crate::frame::{Frame, frame_of, is_altered, is_known_altered, known_frame};
 use crate::part::Part;
 use crate::replies::{Reply, reply_with};
-use aud_node::Stream;
+use aud_node::{KnownEvent, Stream};
 use aud_sio::{Packet, Scratch, Whole};
 use aud_tap::Text;
 use std::alloc::{AllocError, Global};
@@ -36,6 +38,8 @@ pub struct Stay<'a> {
     pub asked: Option<Asked>,
     /// The events of the stream that came, before the reply or after it, in the order in which they were whole.
     pub frames: Vec<Frame<'a>>,
+    /// Whether one of them isn't the entry at its position.
+    pub altered: bool,
 }
 
 impl<'a> Model for Stay<'a> {
@@ -43,7 +47,7 @@ impl<'a> Model for Stay<'a> {
 
     ghost Value = { StaySeen };
 
-    ghost view = { λ s. record { c = s.c; nsp = s.nsp.now; reply = s.reply; asked = s.asked; frames = s.frames.items } };
+    ghost view = { λ s. record { c = s.c; nsp = s.nsp.now; reply = s.reply; asked = s.asked; frames = s.frames.items; altered = s.altered } };
 }
 
 impl<'a> Stay<'a> {
@@ -77,24 +81,27 @@ impl<'a> Stay<'a> {
             reply: None,
             asked: None,
             frames: Vec::new(alloc),
+            altered: false,
         }
     }
 
-    /// One packet more; gives what it is to the stay.
+    /// One packet more; gives what it is to the stay. Where it is said to be `here`, a known event is this stream's.
     pub(crate) fn add(
         &mut self,
         alloc: Global,
         scratch: &mut Scratch,
         stream: &Stream<'_>,
         packet: TapPacket<'a>,
+        here: bool,
     ) -> Result<Part, AllocError>
+        requires { here ≡ true → IsFoundIn stream.now packet }
         ensures stay { OnOk result (self.new
             ≡ grown stream.now self.old (packet_seen packet.entry)) }
         ensures part { IfOk result (λ part. part ≡ part_of stream.now (packet_seen packet.entry)) }
     {
         match packet {
             TapPacket::FromServer(whole) => self.receive(alloc, scratch, stream, whole),
-            TapPacket::Known(known) => self.keep(known_frame(alloc, stream, known)),
+            TapPacket::Known(known) => self.keep_known(stream, &known, here),
             TapPacket::FromClient(packet) => self.ask(alloc, scratch, &packet),
         }
     }
@@ -117,17 +124,54 @@ impl<'a> Stay<'a> {
                 self.reply = Some(reply);
                 Ok(Part::Reply)
             }
-            None => self.keep(frame_of(stream, whole)),
+            None => self.keep_decoded(alloc, stream, whole),
         }
     }
 
-    /// The frame, if there is one, comes after the others.
-    fn keep(&mut self, frame: Option<Frame<'a>>) -> Result<Part, AllocError>
+    /// A packet that was decoded, and is no reply. Its bytes are at hand: the frame is compared with its entry.
+    fn keep_decoded(
+        &mut self,
+        alloc: Global,
+        stream: &Stream<'_>,
+        whole: Whole<'a>,
+    ) -> Result<Part, AllocError>
         ensures stay { OnOk result (self.new
-            ≡ record self.old { frames = self.old.frames ++ cons_option frame.entry [] }) }
-        ensures part { IfOk result (λ is. is ≡ (if is_some frame.entry then part.Frame
-            else part.Other)) }
+            ≡ with_frame stream.now self.old
+            (frame_of stream.now (FromServer (whole_view whole.entry)))) }
+        ensures part { IfOk result (λ is. is
+            ≡ frame_part (frame_of stream.now (FromServer (whole_view whole.entry)))) }
     {
+        let frame = frame_of(alloc, stream, whole)?;
+        let altered = is_altered(stream, frame.as_ref());
+        self.keep(frame, altered)
+    }
+
+    /// A known event, which is this stream's where it is said to be `here`.
+    fn keep_known(
+        &mut self,
+        stream: &Stream<'_>,
+        known: &KnownEvent<'a>,
+        here: bool,
+    ) -> Result<Part, AllocError>
+        requires { here ≡ true → StandsIn stream.now known.now }
+        ensures stay { OnOk result (self.new
+            ≡ with_frame stream.now self.old
+            (frame_of stream.now (FromServer (spelled known.now.event.now.text)))) }
+        ensures part { IfOk result (λ is. is
+            ≡ frame_part (frame_of stream.now (FromServer (spelled known.now.event.now.text)))) }
+    {
+        let frame = known_frame(stream, known);
+        let altered = is_known_altered(stream, known, frame.as_ref(), here);
+        self.keep(frame, altered)
+    }
+
+    /// The frame, if there is one, comes after the others. The flag says whether it isn't its entry.
+    fn keep(&mut self, frame: Option<Frame<'a>>, altered: bool) -> Result<Part, AllocError>
+        ensures stay { OnOk result (self.new
+            ≡ record self.old { frames = self.old.frames ++ cons_option frame.entry []; altered = self.old.altered || altered }) }
+        ensures part { IfOk result (λ is. is ≡ frame_part frame.entry) }
+    {
+        self.altered = self.altered || altered;
         match frame {
             Some(frame) => {
                 self.frames.push(frame)?;

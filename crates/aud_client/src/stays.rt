@@ -10,6 +10,7 @@ ghost use Rattle.aud_client.specs.PlacedStays.{PlacedPacket};
 ghost use Rattle.aud_client.specs.StayPlaces.{PlacesSeen};
 ghost use Rattle.aud_node.specs.Recoverable.{is_event};
 ghost use Rattle.aud_node.specs.Stream.{Text};
+ghost use Rattle.aud_client.specs.Private.Ahead.{IsFoundIn};
 ghost use Rattle.aud_client.specs.Private.Kept.{Keeps, BeginsAt, GoesOn, open_at, place_for, unless_replied, empty_stay, grown, no_places, grown_places, part_of, with_part};
 
 use crate::connection::{Placed, TapPacket};
@@ -77,27 +78,30 @@ impl<'a> Stays<'a> {
             ++ map placed_seen packets.entry.items)) }
     {
         for placed in packets {
-            self.take(scratch, stream, c, placed)?;
+            self.take(scratch, stream, c, placed, false)?;
         }
         Ok(())
     }
 
-    /// The next packet of the connection with this number. Payloads are read with this memory.
+    /// The next packet of the connection with this number. Where it is said to be `here`, a known event is this stream's.
+    /// Payloads are read with this memory.
     pub fn take(
         &mut self,
         scratch: &mut Scratch,
         stream: &Stream<'_>,
         c: u64,
         placed: Placed<'a>,
+        here: bool,
     ) -> Result<(), AllocError>
+        requires { here ≡ true → IsFoundIn stream.now placed.packet }
         ensures { (done : List StaySeen) (told : List PlacesSeen) (packets : List PlacedPacket)
             → Keeps stream.now c self.old done told packets
             → OnOk result (Keeps stream.now c self.new done told (packets
             ++ placed_seen placed.entry ∷ [])) }
     {
         match self.place_for(&placed.packet) {
-            Some(place) => self.go_on(scratch, stream, place, placed),
-            None => self.begin(scratch, stream, c, placed),
+            Some(place) => self.go_on(scratch, stream, place, placed, here),
+            None => self.begin(scratch, stream, c, placed, here),
         }
     }
 
@@ -129,7 +133,9 @@ impl<'a> Stays<'a> {
         stream: &Stream<'_>,
         c: u64,
         placed: Placed<'a>,
+        here: bool,
     ) -> Result<(), AllocError>
+        requires { here ≡ true → IsFoundIn stream.now placed.packet }
         ensures stays { OnOk result (self.new.stays.items
             ≡ self.old.stays.items
             ++ grown stream.now (empty_stay c (namespace (packet_seen placed.entry.packet)))
@@ -143,7 +149,7 @@ impl<'a> Stays<'a> {
     {
         let place = self.stays.len();
         self.open_stay(c, &placed.packet)?;
-        self.grow(scratch, stream, place, placed)
+        self.grow(scratch, stream, place, placed, here)
     }
 
     /// A stay in the packet's namespace comes after the others. It goes on, unless the packet ends it.
@@ -185,7 +191,9 @@ impl<'a> Stays<'a> {
         stream: &Stream<'_>,
         place: usize,
         placed: Placed<'a>,
+        here: bool,
     ) -> Result<(), AllocError>
+        requires { here ≡ true → IsFoundIn stream.now placed.packet }
         ensures stays { (s : StaySeen) → slice_get self.old.stays.items place ≡ Some s
             → OnOk result (self.new.stays.items
             ≡ set self.old.stays.items place (grown stream.now s
@@ -199,7 +207,7 @@ impl<'a> Stays<'a> {
         ensures open { OnOk result (GoesOn (packet_seen placed.entry.packet) self.old self.new) }
     {
         self.end(&placed.packet);
-        self.grow(scratch, stream, place, placed)
+        self.grow(scratch, stream, place, placed, here)
     }
 
     /// The stay that goes on in the packet's namespace does so no more, if the packet ends it.
@@ -220,7 +228,9 @@ impl<'a> Stays<'a> {
         stream: &Stream<'_>,
         place: usize,
         placed: Placed<'a>,
+        here: bool,
     ) -> Result<(), AllocError>
+        requires { here ≡ true → IsFoundIn stream.now placed.packet }
         ensures stays { (s : StaySeen) → slice_get self.old.stays.items place ≡ Some s
             → OnOk result (self.new.stays.items
             ≡ set self.old.stays.items place (grown stream.now s
@@ -235,7 +245,7 @@ impl<'a> Stays<'a> {
     {
         let Placed { number, packet } = placed;
         let short = in_four_bytes(number)?;
-        let part = self.add(scratch, stream, place, packet)?;
+        let part = self.add(scratch, stream, place, packet, here)?;
         self.note(place, short, part)
     }
 
@@ -246,7 +256,9 @@ impl<'a> Stays<'a> {
         stream: &Stream<'_>,
         place: usize,
         packet: TapPacket<'a>,
+        here: bool,
     ) -> Result<Part, AllocError>
+        requires { here ≡ true → IsFoundIn stream.now packet }
         ensures stays { (s : StaySeen) → slice_get self.old.stays.items place ≡ Some s
             → OnOk result (self.new.stays.items
             ≡ set self.old.stays.items place (grown stream.now s (packet_seen packet.entry))) }
@@ -256,7 +268,7 @@ impl<'a> Stays<'a> {
         ensures open { (n : List ℕ) → open_at self.new n ≡ open_at self.old n }
     {
         match self.stays.get_mut(place) {
-            Some(stay) => stay.add(self.alloc, scratch, stream, packet),
+            Some(stay) => stay.add(self.alloc, scratch, stream, packet, here),
             None => Ok(Part::Other),
         }
     }

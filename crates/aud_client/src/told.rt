@@ -10,6 +10,7 @@ ghost use Rattle.aud_client.specs.Private.ConnectionRead.{inside};
 ghost use Rattle.aud_client.specs.Private.ClientRead.{begun, bad_of, cut_seen};
 ghost use Rattle.aud_client.specs.Private.Told.{HasKept};
 ghost use Rattle.aud_client.specs.Private.Kept.{Keeps};
+ghost use Rattle.aud_client.specs.Private.Ahead.{StandsIn};
 ghost use Rattle.aud_client.specs.PlacedStays.{PlacedPacket};
 ghost use Rattle.aud_node.specs.Known.{spelled};
 
@@ -148,7 +149,7 @@ fn read_records<'a>(
     stays: &mut Stays<'a>,
     reader: &mut Reader<'_, 'a>,
     scratch: &mut Scratch,
-    stream: &Stream<'_>,
+    stream: &Stream<'a>,
     c: u64,
     first: usize,
     recs: &'a [ClientRec],
@@ -172,7 +173,7 @@ fn read_some<'a>(
     stays: &mut Stays<'a>,
     reader: &mut Reader<'_, 'a>,
     scratch: &mut Scratch,
-    stream: &Stream<'_>,
+    stream: &Stream<'a>,
     c: u64,
     number: usize,
     some: &'a [ClientRec],
@@ -184,7 +185,7 @@ fn read_some<'a>(
         → OnOk result (HasKept stream.now c first done told
         (recs ++ some.now) reader.new stays.new) }
 {
-    let known = reader.known_in(some)?;
+    let known = reader.known_in(stream, some)?;
     for (i, rec) in some.iter().enumerate() {
         match reader.at_rest(known[i]) {
             Some(event) => take_known(stays, scratch, stream, c, number + i, event)?,
@@ -194,7 +195,8 @@ fn read_some<'a>(
     Ok(())
 }
 
-/// The connection's next record, which has this number and is known to carry the event: this goes into the stays.
+/// The connection's next record, which has this number and is known to carry this event of the stream: that goes into the
+/// stays.
 fn take_known<'a>(
     stays: &mut Stays<'a>,
     scratch: &mut Scratch,
@@ -203,13 +205,14 @@ fn take_known<'a>(
     number: usize,
     event: KnownEvent<'a>,
 ) -> Result<(), AllocError>
+    requires { StandsIn stream.now event }
     ensures { (done : List StaySeen) (told : List PlacesSeen) (packets : List PlacedPacket)
         → Keeps stream.now c stays.old done told packets
         → OnOk result (Keeps stream.now c stays.new done told (packets
         ++ (number, FromServer (spelled event.entry.event.now.text)) ∷ [])) }
 {
     let packet = TapPacket::Known(event);
-    stays.take(scratch, stream, c, Placed { number, packet })
+    stays.take(scratch, stream, c, Placed { number, packet }, true)
 }
 
 /// The connection's next record, which has this number. The packets that are whole with it go into the stays.

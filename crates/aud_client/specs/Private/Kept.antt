@@ -1,5 +1,5 @@
 -- What the code keeps of the stays while it goes through the packets.
-use Rattle.std.specs.Prelude.{◌≡◌, ℕ, ◌+◌, ◌&&◌, List, [], ◌∷◌, ◌++◌, map, length, Option, Some, None, if◌then◌else◌, slice_get, is_some}
+use Rattle.std.specs.Prelude.{◌≡◌, ℕ, ◌+◌, false, ◌&&◌, ◌||◌, List, [], ◌∷◌, ◌++◌, map, length, Option, Some, None, if◌then◌else◌, slice_get, is_some}
 use Rattle.std.specs.List.{cons_option}
 use Rattle.std.specs.Option.{option_map, option_and_then, option_or}
 use Rattle.std.specs.Ordering.{nat_cmp}
@@ -14,13 +14,14 @@ use Rattle.aud_client.specs.declared.part.Part.TheVariants.{Ask, Reply, Frame, O
 use Rattle.aud_client.specs.declared.stays.Stays.{Stays}
 use Rattle.aud_client.specs.Stays.{namespace, is_connect, is_disconnect, stays}
 use Rattle.aud_client.specs.Open.{open_place}
+use Rattle.aud_client.specs.Entries.{FrameSeen, has_altered}
 use Rattle.aud_client.specs.StaySeen.{StaySeen, stay_of, reply_at, ask_of, frame_of}
 use Rattle.aud_client.specs.PlacedStays.{PlacedPacket, forgotten, placed_stays}
 use Rattle.aud_client.specs.StayPlaces.{PlacesSeen, record_of, places_of}
 
 -- what is known of a stay without packets
 abbrev pub empty_stay : ℕ → Text → StaySeen
-empty_stay c nsp = record { c = c; nsp = nsp; reply = None; asked = None; frames = [] }
+empty_stay c nsp = record { c = c; nsp = nsp; reply = None; asked = None; frames = []; altered = false }
 
 -- what is known of a stay, with one packet more
 abbrev pub grown : List StreamRec → StaySeen → TapPacket → StaySeen
@@ -31,7 +32,17 @@ grown stream t p =
       reply = option_or (reply_at p) t.reply;
       asked = option_or (ask_of p) t.asked;
       frames = t.frames ++ cons_option (frame_of stream p) [];
+      altered = t.altered || has_altered stream (cons_option (frame_of stream p) []);
     }
+
+-- a stay with the frame more, if there is one
+abbrev pub with_frame : List StreamRec → StaySeen → Option FrameSeen → StaySeen
+with_frame stream t frame =
+    record t { frames = t.frames ++ cons_option frame []; altered = t.altered || has_altered stream (cons_option frame []) }
+
+-- what a packet is to its stay that is this frame, if it is one
+abbrev pub frame_part : Option FrameSeen → Part
+frame_part frame = if is_some frame then Frame else Other
 
 -- what a packet is to its stay
 abbrev pub part_of : List StreamRec → TapPacket → Part
