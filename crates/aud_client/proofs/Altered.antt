@@ -1,5 +1,5 @@
 -- Whether a frame of a stay isn't its entry, of all stays of a tap.
-use Rattle.std.proofs.Common.{List, [], ◌∷◌, ℕ, refl, map, flat_map, arith}
+use Rattle.std.proofs.Common.{List, [], ◌∷◌, refl, flat_map, arith}
 use Rattle.std.specs.List.{All}
 use Rattle.std.proofs.lemmas.List.Elements.{All-append, All-filter, All-map}
 use Rattle.aud_tap.specs.declared.records.StreamRec.{StreamRec}

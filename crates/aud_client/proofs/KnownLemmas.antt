@@ -1,21 +1,19 @@
 -- What a text gives that is known.
-use Rattle.std.proofs.Common.{◌≡◌, ◌∷◌, ◌++◌, [], true, false, ◌&&◌, cond, refl, sym, ap, ◌∙◌, Ok, Option, Some, None, is_none, is_some, List, ℕ, map}
-use Rattle.std.specs.List.{cons_option}
-use Rattle.std.specs.Option.{option_map, option_and_then, option_or}
+use Rattle.std.proofs.Common.{◌≡◌, ◌∷◌, [], true, false, ◌&&◌, cond, refl, sym, ap, ◌∙◌, Ok, Option, Some, None, is_none, is_some, List, ℕ}
+use Rattle.std.specs.Option.{option_map, option_and_then}
 use Rattle.aud_tap.specs.declared.records.Event.{Event}
 use Rattle.aud_tap.specs.declared.records.StreamRec.{StreamRec}
 use Rattle.aud_sio.specs.declared.kind.PacketKind.{PacketKind}
 use Rattle.aud_sio.specs.declared.kind.PacketKind.TheVariants as kind
-use Rattle.aud_sio.specs.Message.{Text, blob_bytes}
-use Rattle.aud_sio.specs.Assembly.{Continues, blob_view}
-use Rattle.aud_sio.specs.declared.whole.Blob.{Blob as BlobCode}
+use Rattle.aud_sio.specs.Message.{Text}
+use Rattle.aud_sio.specs.Assembly.{Continues}
 use Rattle.aud_sio.proofs.Assembling.{text_alone}
 use Rattle.aud_node.specs.Recoverable.{is_event}
 use Rattle.aud_node.specs.Known.{is_sent_alone, spelled}
 use Rattle.aud_node.proofs.KnownLemmas.{sent_alone}
 use Rattle.aud_client.specs.TapPackets.{FromServer}
 use Rattle.aud_client.specs.Replies.{ReplySeen, is_connect_kind}
-use Rattle.aud_client.specs.StaySeen.{FrameSeen, StaySeen, frame_at, frame_of, offset_in, recoverable_position, reply_at}
+use Rattle.aud_client.specs.StaySeen.{StaySeen, frame_at, frame_of, offset_in, recoverable_position, reply_at}
 use Rattle.aud_client.specs.declared.part.Part.TheVariants as part
 use Rattle.aud_client.specs.Private.Kept.{frame_part, grown, part_of, with_frame}
 use Rattle.aud_client.proofs.Telling.{no_reply_at}
