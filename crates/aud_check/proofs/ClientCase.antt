@@ -1,7 +1,7 @@
 -- What a client received, by its stays.
 use Rattle.std.proofs.Common.{arith, ◌≡◌, ℕ, true, ◌&&◌, not, List, [], ◌∷◌, Some, refl, sym, ap, subst, ◌∙◌}
 use Rattle.std.proofs.lemmas.Bool.{and_parts}
-use Rattle.std.specs.List.{list_all}
+use Rattle.std.specs.List.{All, list_all}
 use Rattle.std.specs.Str.{bytes_eq}
 use Rattle.aud_tap.specs.declared.records.StreamRec.{StreamRec}
 use Rattle.aud_tap.specs.declared.records.ClientRec.{ClientRec}
@@ -10,7 +10,7 @@ use Rattle.aud_node.specs.Cluster.{Cluster}
 use Rattle.aud_node.specs.NodeTaps.{client_at}
 use Rattle.aud_rooms.specs.Turns.{Who}
 use Rattle.aud_cert.specs.Certificate.{place_named}
-use Rattle.aud_client.specs.StaySeen.{StaySeen, FrameSeen}
+use Rattle.aud_client.specs.StaySeen.{StaySeen, FrameSeen, TellsAltered}
 use Rattle.aud_client.specs.Received.{TranscriptSeen, transcript_of, received_list, stays_naming, frames_by_stay, are_in_namespace}
 use Rattle.aud_check.specs.Client.{case_for}
 use Rattle.aud_check.specs.Private.ClientCheck.{IsClientRefusal, transcript_named}
@@ -33,6 +33,14 @@ all_in who (stay ∷ stays) all =
 pub told_recs : (c : Cluster) (client : Text) (t : TranscriptSeen) → Some t ≡ transcript_named c client
     → (recs : List ClientRec) × (client_at c (place_named c client) ≡ Some recs) × (t ≡ transcript_of c.stream recs)
 told_recs c client t is = grind arith
+
+-- the stays of the named tap tell truly of their frames
+pub tells_named : (c : Cluster) (client pid : Text) → ((stream : List StreamRec) (recs : List ClientRec) (q : Text) → All (TellsAltered stream) (stays_naming q (transcript_of stream recs).stays))
+    → (tap : TranscriptSeen) → Some tap ≡ transcript_named c client → (stream : List StreamRec) (stays : List StaySeen) → stream ≡ c.stream → stays ≡ stays_naming pid tap.stays → All (TellsAltered stream) stays
+tells_named c client pid law tap is stream stays of_c own =
+    let (recs, at, tells) = told_recs c client tap is in
+    let its : stays ≡ stays_naming pid (transcript_of c.stream recs).stays = own ∙ ap (λ (r : TranscriptSeen). stays_naming pid r.stays) tells in
+    subst (λ (s : List StreamRec). All (TellsAltered s) stays) (sym of_c) (subst (All (TellsAltered c.stream)) (sym its) (law c.stream recs pid))
 
 -- the stays of one session are in one namespace
 pub one_namespace : (who : Who) (stays : List StaySeen) → are_of_session who stays ≡ true → are_in_namespace who.nsp stays ≡ true

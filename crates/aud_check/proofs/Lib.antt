@@ -14,6 +14,7 @@ pub mod ClientCase
 pub mod Judged
 pub mod Parts
 pub mod AlteredFrames
+pub mod Unaltered
 pub mod Differences
 pub mod Misfits
 pub mod BadWindows

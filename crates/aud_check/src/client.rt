@@ -11,7 +11,7 @@ use crate::received::check_received;
 use crate::refusal::Refusal;
 use crate::session::ShownSession;
 use crate::stays::are_of_session;
-use aud_client::{IndexedTranscript, Recording, received_by_stays};
+use aud_client::{IndexedTranscript, Recording, received_by_stays, stays_tell_altered};
 use aud_node::Logs;
 use std::alloc::Global;
 
@@ -40,6 +40,7 @@ pub(crate) fn check_client(
         return Err(Refusal::Names);
     };
     received_by_stays();
+    stays_tell_altered();
     let named = transcript.naming(alloc, session.pid)?;
     let stays = named.as_slice();
     if !are_of_session(session, stays) {

@@ -1,16 +1,18 @@
 //! The first event that came with another content than its entry's.
 ghost use Rattle.std.specs.Prelude.{◌≡◌, MatchOption, Some, map};
+ghost use Rattle.std.specs.List.{All, list_any};
 ghost use Rattle.aud_tap.specs.declared.records.StreamRec.TheVariants.{Ev};
 ghost use Rattle.aud_sio.specs.Message.{blob_bytes};
 ghost use Rattle.aud_sio.specs.Assembly.{blob_view};
-ghost use Rattle.aud_check.specs.Frames.{AreEntries, IsEntry, IsOf};
+ghost use Rattle.aud_client.specs.StaySeen.{TellsAltered};
+ghost use Rattle.aud_check.specs.Frames.{AreEntries, IsEntry, IsOf, frames_in};
 ghost use Rattle.aud_node.specs.Stream.{entry};
 ghost use Rattle.aud_check.specs.Content.{IsAltered, IsPartOf};
 ghost use Rattle.aud_check.specs.Parting.{PartAt};
 ghost use Rattle.aud_check.specs.Private.Attachments.{IsAttachmentsPart};
 
 use crate::parting::first_parting;
-use aud_client::Frame;
+use aud_client::{Frame, Stay};
 use aud_node::Stream;
 use aud_sio::Blob;
 use aud_tap::{Bytes, Event, StreamRec};
@@ -39,9 +41,41 @@ pub enum Part {
     Attachment { number: usize, at: usize },
 }
 
+/// The first of the frames that isn't the entry at its position. These are the frames of the stays: they are looked at
+/// only where one of the stays tells that there is such a one.
+pub(crate) fn altered_in(
+    stream: &Stream<'_>,
+    stays: &[&Stay<'_>],
+    frames: &[&Frame<'_>],
+) -> Option<Altered>
+    requires frames { map (λ frame. frame.now) frames.now
+        ≡ frames_in (map (λ stay. stay.now) stays.now) }
+    requires altered { All (TellsAltered stream.now) (map (λ stay. stay.now) stays.now) }
+    ensures { MatchOption result (AreEntries stream.now (map (λ frame. frame.now) frames.now))
+        (IsAltered stream.now (map (λ frame. frame.now) frames.now)) }
+{
+    if !has_altered(stays) {
+        return None;
+    }
+    first_altered(stream, frames)
+}
+
+/// Whether one of the stays tells of a frame that isn't its entry.
+fn has_altered(stays: &[&Stay<'_>]) -> bool
+    ensures { result ≡ list_any (λ stay. stay.now.altered) stays.now }
+{
+    stays.iter().any(|stay| tells_altered(*stay))
+}
+
+fn tells_altered(stay: &Stay<'_>) -> bool
+    ensures { result ≡ stay.now.altered }
+{
+    stay.altered
+}
+
 /// The first of the frames whose text or attachments are not, byte for byte, those of the entry at its position; none
 /// where each frame is its entry.
-pub(crate) fn first_altered(stream: &Stream<'_>, frames: &[&Frame<'_>]) -> Option<Altered>
+fn first_altered(stream: &Stream<'_>, frames: &[&Frame<'_>]) -> Option<Altered>
     ensures { MatchOption result (AreEntries stream.now (map (λ frame. frame.now) frames.now))
         (IsAltered stream.now (map (λ frame. frame.now) frames.now)) }
 {
@@ -75,9 +109,9 @@ fn part_of_event(frame: &Frame<'_>, event: &Event) -> Option<Part>
     ensures { MatchOption result (IsOf frame.now (Some (Ev event.now))) (IsPartOf frame.now
         (Some (Ev event.now))) }
 {
-    match first_parting(frame.text.as_bytes(), event.text.as_str().as_bytes()) {
+    match first_parting(frame.text().as_bytes(), event.text.as_str().as_bytes()) {
         Some(at) => Some(Part::Text { at }),
-        None => part_of_attachments(&frame.bin, event.bin.as_slice()),
+        None => part_of_attachments(frame.bin(), event.bin.as_slice()),
     }
 }
 

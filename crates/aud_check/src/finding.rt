@@ -1,12 +1,13 @@
 //! What is found wrong with what a client received of a session.
 ghost use Rattle.std.specs.Prelude.{◌≡◌, IfOk, MatchOption, map};
-ghost use Rattle.aud_client.specs.StaySeen.{FrameSeen};
+ghost use Rattle.std.specs.List.{All};
+ghost use Rattle.aud_client.specs.StaySeen.{FrameSeen, TellsAltered};
 ghost use Rattle.aud_check.specs.Difference.{IsAscending};
 ghost use Rattle.aud_check.specs.Faults.{IsReceived, named, position_in};
 ghost use Rattle.aud_check.specs.Findings.{IsFirstFinding, by_stays, fault_shown};
 ghost use Rattle.aud_check.specs.Frames.{frames_in, offset_at};
 
-use crate::content::{Altered, first_altered};
+use crate::content::{Altered, altered_in};
 use crate::difference::{Difference, first_difference};
 use crate::window::{BadWindow, first_bad_window};
 use aud_cert::Fault;
@@ -31,7 +32,9 @@ pub enum Finding {
 }
 
 /// The first that is wrong, in the order of [`Finding`]; none where nothing is. The stays are those of the client's tap
-/// that name the session, and these are their frames, stay after stay.
+/// that name the session, and these are their frames, stay after stay. The frames are compared with their entries only
+/// where one of the stays tells of a frame that isn't its entry; what stays tell is true of all that were read over this
+/// stream ([`stays_tell_altered`](aud_client::stays_tell_altered)).
 pub fn first_finding(
     alloc: Global,
     stream: &Stream<'_>,
@@ -42,6 +45,7 @@ pub fn first_finding(
 ) -> Result<Option<Finding>, AllocError>
     requires frames { map (λ frame. frame.now) frames.now
         ≡ frames_in (map (λ stay. stay.now) stays.now) }
+    requires altered { All (TellsAltered stream.now) (map (λ stay. stay.now) stays.now) }
     requires ascending { IsAscending due.now }
     ensures { IfOk result (λ found. MatchOption found
         (IsReceived (by_stays stream.now received.now (map (λ stay. stay.now) stays.now) due.now))
@@ -54,7 +58,7 @@ pub fn first_finding(
     if received.orphan {
         return Ok(Some(Finding::Orphan));
     }
-    if let Some(altered) = first_altered(stream, frames) {
+    if let Some(altered) = altered_in(stream, stays, frames) {
         return Ok(Some(Finding::Content(altered)));
     }
     let positions = positions_of(alloc, frames)?;

@@ -1,5 +1,7 @@
 //! What a client received of a session against what was due to it.
 ghost use Rattle.std.specs.Prelude.{◌≡◌, IfErr, IfOk, OnOk, length, map};
+ghost use Rattle.std.specs.List.{All};
+ghost use Rattle.aud_client.specs.StaySeen.{TellsAltered};
 ghost use Rattle.aud_check.specs.Difference.{IsAscending};
 ghost use Rattle.aud_check.specs.Faults.{IsReceived};
 ghost use Rattle.aud_check.specs.Findings.{by_stays};
@@ -22,7 +24,8 @@ pub(crate) fn check_received(
     stays: &[&Stay<'_>],
     due: &[u64],
 ) -> Result<usize, Refusal>
-    requires { IsAscending due.now }
+    requires altered { All (TellsAltered stream.now) (map (λ stay. stay.now) stays.now) }
+    requires ascending { IsAscending due.now }
     ensures received { OnOk result (IsReceived (by_stays stream.now received.now
         (map (λ stay. stay.now) stays.now) due.now)) }
     ensures got { IfOk result (λ got. got ≡ length (frames_in (map (λ stay. stay.now) stays.now))) }

@@ -7,7 +7,7 @@ use Rattle.aud_client.specs.Received.{stays_naming}
 use Rattle.aud_check.specs.Faults.{Case, IsReceived}
 use Rattle.aud_check.specs.Private.ReceivedCheck.{IsReceivedRefusal}
 use Rattle.aud_check.specs.NamedStays.{are_of_session}
-use Rattle.aud_check.proofs.ClientCase.{case_by_stays, client_refused}
+use Rattle.aud_check.proofs.ClientCase.{case_by_stays, client_refused, tells_named}
 use Rattle.aud_check.proofs.client.check_client.Goals as goal
 
 pub returns : goal.returns
@@ -25,3 +25,9 @@ returns c =
       got = IfOk-weaker answer _ _ (λ got counted. counted ∙ ap (λ (case : Case). length case.frames) by) c.check_received.ensures.got;
       refused = IfErr-weaker answer _ _ (client_refused who _ is) (subst (λ (case : Case). IfErr answer (IsReceivedRefusal case)) by c.check_received.ensures.refused);
     }
+
+pub check_received-requires-clause-altered : goal.check_received-requires-clause-altered
+check_received-requires-clause-altered c =
+    let told = c.in-Some.transcript in
+    let own = ap (map (λ stay. stay.now)) c.as_slice-stays.ensures.value ∙ c.in_ok-named.ensures ∙ ap (λ (w : Who). stays_naming w.pid told.now.stays) c.session.view_is in
+    tells_named c.args.logs.now c.args.client.now c.args.session.now.pid c.stays_tell_altered.ensures.naming told.now (sym (ap option_copied c.in-Some.is) ∙ c.requires.transcript) _ _ c.stream.ensures own
