@@ -1,5 +1,5 @@
 -- Stays that tell that each of their frames is its entry.
-use Rattle.std.proofs.Common.{◌≡◌, ◌++◌, ◌||◌, not, Bool, true, false, List, [], ◌∷◌, ℕ, suc, Option, Some, None, sym, ◌∙◌, true≢false, arith}
+use Rattle.std.proofs.Common.{◌≡◌, ◌++◌, not, false, List, [], ◌∷◌, suc, Option, Some, None, sym, ◌∙◌, true≢false, arith}
 use Rattle.std.specs.Bool.{Decides}
 use Rattle.std.specs.Cmp.Lexicographic.{pointwise, pointwise_decides}
 use Rattle.std.specs.List.{All, list_any}
