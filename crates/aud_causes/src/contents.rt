@@ -67,7 +67,7 @@ fn event_causes(
 ) -> Result<Vec<Cause>, AllocError>
     ensures { IfOk result (λ causes. causes.items ≡ event_causes frame.now event.now altered) }
 {
-    let came = said_in(alloc, frame.text)?;
+    let came = said_in(alloc, frame.text())?;
     let entry = said_in(alloc, event.text.as_str())?;
     let same = says_same(&came, &entry);
     let other = is_other_event(&came, &entry);
@@ -102,7 +102,7 @@ fn event_causes(
 fn is_by_another_encoder(same: bool, frame: &Frame<'_>, event: &Event) -> bool
     ensures { result ≡ (same && are_same frame.now.bin event.now.bin) }
 {
-    same && are_same(&frame.bin, event.bin.as_slice())
+    same && are_same(frame.bin(), event.bin.as_slice())
 }
 
 /// Whether it says the same, and has the entry's attachments in another order.
@@ -110,17 +110,17 @@ fn is_reordered(same: bool, frame: &Frame<'_>, event: &Event) -> bool
     ensures { result ≡ (same && not (are_same frame.now.bin event.now.bin)
         && are_same_in_any_order frame.now.bin event.now.bin) }
 {
-    if !same || are_same(&frame.bin, event.bin.as_slice()) {
+    if !same || are_same(frame.bin(), event.bin.as_slice()) {
         return false;
     }
-    are_same_in_any_order(&frame.bin, event.bin.as_slice())
+    are_same_in_any_order(frame.bin(), event.bin.as_slice())
 }
 
 /// Whether it doesn't say the same, or hasn't the entry's attachments in any order.
 fn is_altered(same: bool, frame: &Frame<'_>, event: &Event) -> bool
     ensures { result ≡ not (same && are_same_in_any_order frame.now.bin event.now.bin) }
 {
-    !same || !are_same_in_any_order(&frame.bin, event.bin.as_slice())
+    !same || !are_same_in_any_order(frame.bin(), event.bin.as_slice())
 }
 
 /// The cause, where it holds.

@@ -92,7 +92,7 @@ fn push_texts_of(
         return Ok(());
     };
     match stream.entry(frame.position) {
-        Some(StreamRec::Ev(event)) => push_both(out, frame.text, event.text.as_str(), at),
+        Some(StreamRec::Ev(event)) => push_both(out, frame.text(), event.text.as_str(), at),
         _ => Ok(()),
     }
 }

@@ -111,8 +111,8 @@ fn tell_frames(stream: &Stream<'_>, stays: &[Stay<'_>], out: &mut Told) {
 fn tell_frame(stream: &Stream<'_>, frame: &Frame<'_>, out: &mut Told) {
     out.show(&frame.position);
     out.text(" ");
-    out.text(frame.text);
-    for blob in frame.bin.as_slice() {
+    out.text(frame.text());
+    for blob in frame.bin() {
         let bytes = blob.as_slice();
         out.text(" ");
         out.show(&bytes.len());
