@@ -1,13 +1,11 @@
 -- Other entries of a session with the same fault.
-use Rattle.std.specs.Prelude.{◌≡◌, ◌⊎◌, ◌++◌, ◌&&◌, ◌||◌, not, ℕ, zero, suc, ◌+◌, ◌-◌, Bool, true, false, List, [], ◌∷◌, map, take, drop, length, slice_get, count_by, nat_eq, nat_lt, option_to_list, Option, Some, None, if◌then◌else◌}
-use Rattle.std.specs.Cmp.Lexicographic.{pointwise}
+use Rattle.std.specs.Prelude.{◌≡◌, ◌⊎◌, ◌++◌, ◌&&◌, ◌||◌, not, ℕ, zero, suc, ◌+◌, ◌-◌, Bool, true, false, List, [], ◌∷◌, map, take, drop, length, slice_get, count_by, nat_eq, nat_lt, option_to_list, Option, None, if◌then◌else◌}
 use Rattle.std.specs.List.{filter}
 use Rattle.std.specs.Option.{option_map, option_and_then}
-use Rattle.std.specs.Str.{bytes_eq}
 use Rattle.aud_tap.specs.declared.records.StreamRec.{StreamRec}
-use Rattle.aud_tap.specs.declared.records.StreamRec.TheVariants.{Ev, Other}
 use Rattle.aud_node.specs.Cluster.{Cluster}
-use Rattle.aud_node.specs.Stream.{Text, entry}
+use Rattle.aud_node.specs.Stream.{Text}
+use Rattle.aud_client.specs.Entries.{is_entry}
 use Rattle.aud_client.specs.StaySeen.{FrameSeen}
 use Rattle.aud_cert.specs.declared.fault.Fault.TheVariants.{Content, Tail}
 use Rattle.aud_check.specs.declared.difference.Difference.{Difference}
@@ -66,16 +64,6 @@ pub record AreAllOf (test : ℕ → Bool) (positions : List ℕ) : Type 0 where
   pub all : (p : ℕ) → has_position positions p ≡ test p
 
 -- ---- which frames
-
--- the frame is the entry, if there is one: its text and its attachments are the entry's, byte for byte
-abbrev pub is_of : FrameSeen → Option StreamRec → Bool
-is_of frame None = false
-is_of frame (Some (Ev event)) = bytes_eq frame.text event.text && pointwise bytes_eq frame.bin event.bin
-is_of frame (Some (Other off)) = false
-
--- the frame is the entry at its position
-abbrev pub is_entry : List StreamRec → FrameSeen → Bool
-is_entry stream frame = is_of frame (entry stream frame.position)
 
 -- the positions of the frames that aren't the entry there, in the order in which they came
 abbrev pub altered_positions : List StreamRec → List FrameSeen → List ℕ

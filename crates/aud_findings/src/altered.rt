@@ -2,14 +2,14 @@
 ghost use Rattle.std.specs.Prelude.{◌≡◌, ◌++◌, IfOk, OnOk, filter, map, nat_eq, not, [], ◌∷◌};
 ghost use Rattle.aud_session_facts.specs.Account.{IsAccountOf};
 ghost use Rattle.aud_rows.specs.ClientPlaces.{AreOf};
-ghost use Rattle.aud_findings.specs.Also.{AreAllOf, AreAlteredAlso, altered_lines, altered_positions, is_altered_at, is_entry, is_another, others_seen, told_of};
+ghost use Rattle.aud_findings.specs.Also.{AreAllOf, AreAlteredAlso, altered_lines, altered_positions, is_altered_at, is_another, others_seen, told_of};
 
 use crate::also::{entry_lines, frame_row, push_line, range_shown};
 use crate::outcome::OthersShown;
 use crate::ranges::ranges_of;
 use crate::replies::numbers_naming;
-use aud_check::{frames_in, part_of};
-use aud_client::Frame;
+use aud_check::frames_in;
+use aud_client::{Frame, is_entry};
 use aud_node::Stream;
 use aud_rows::{ClientPlaces, Role, Sheet};
 use aud_session_facts::Account;
@@ -105,14 +105,6 @@ fn is_altered_at(stream: &Stream<'_>, position: u64, frame: &Frame<'_>) -> bool
         return false;
     }
     !is_entry(stream, frame)
-}
-
-/// Whether the frame is the entry at its position.
-#[tactic(auto, using(crate::proofs::Unaltered::none_there))]
-fn is_entry(stream: &Stream<'_>, frame: &Frame<'_>) -> bool
-    ensures { result ≡ is_entry stream.now frame.now }
-{
-    part_of(stream, frame).is_none()
 }
 
 /// The positions of the frames that aren't the entry there, in the order in which they came.
