@@ -1,20 +1,20 @@
 -- The records that begin and break turns, noted one after the other.
 use Rattle.std.proofs.Common.{◌≡◌, ◌<◌, ◌+◌, ◌++◌, ◌||◌, ℕ, Bool, true, false, cond, List, [], ◌∷◌, length, map, set, take, replicate, get_or, nat_eq, nat_lt, Option, Some, None, option_map, slice_get, refl, sym, ap, subst, ◌∙◌, arith, append_assoc, flat_map, zero-add}
-use Rattle.std.specs.List.{find}
+use Rattle.std.specs.List.{find, list_any}
 use Rattle.std.specs.Option.{option_or}
 use Rattle.std.proofs.lemmas.Bool.Decides.{nat_tests}
 use Rattle.std.proofs.lemmas.List.{get_or-map, get_or-replicate, length-map, length-replicate, length-set, same_lists, take_more}
 use Rattle.std.proofs.lemmas.List.Folds.{find-append, list_any-append}
 use Rattle.std.proofs.lemmas.Option.{none-some, same_Some, get_or_from_slice_get, slice_get-get_or}
 use Rattle.aud_base.specs.Lists.{numbers_from}
-use Rattle.aud_base.proofs.Numbers.{slice_get-numbers}
+use Rattle.aud_base.proofs.Numbers.{numbers_from-more, slice_get-numbers}
 use Rattle.aud_merge.proofs.Basics.{slice_get-set_same, slice_get-set_other}
 use Rattle.aud_session_facts.proofs.Steps.{given-more}
 use Rattle.aud_rooms.proofs.Ascending.{length-numbers}
 use Rattle.aud_session_facts.specs.declared.marks.TurnMark.{TurnMark}
 use Rattle.aud_session_facts.specs.declared.place.RecordPlace.{RecordPlace}
 use Rattle.aud_causes.specs.Private.Noting.{begin_at, begin_in, with_begin, break_in, with_break}
-use Rattle.aud_causes.specs.Turns.{begin_of, begins_of, begun_turn, breaks_of, broken_turn, is_broken, is_turn, turn_count}
+use Rattle.aud_causes.specs.Turns.{begin_of, begins_of, begun_turn, breaks_of, broken_turn, ended_by, ends_of, is_broken, is_ended_in, is_turn, turn_count}
 
 -- ---- numbers and lists
 
@@ -166,6 +166,36 @@ broken_more count marks i m d old new within at is were =
 -- those of all
 pub broken_are : (marks : List TurnMark) (broken : List Bool) → AreBroken (turn_count 0 marks) marks broken → broken ≡ breaks_of marks
 broken_are marks broken are = by_number (is_broken marks) (turn_count 0 marks) broken are.long are.each
+
+-- ---- what is ended
+
+pub record AreEnded (count : ℕ) (marks : List TurnMark) (seen : ℕ) (ended : List Bool) : Type 0 where
+  pub long : length ended ≡ count
+  pub each : (k : ℕ) → k < count → slice_get ended k ≡ Some (list_any (λ number. is_turn k (ended_by marks number)) (numbers_from 0 seen))
+
+-- it holds of one of the numbers with one more, or of that
+any-more : (p : ℕ → Bool) (i : ℕ) → list_any p (numbers_from 0 (i + 1)) ≡ (list_any p (numbers_from 0 i) || p i)
+any-more p i =
+    ap (list_any p) (numbers_from-more i)
+    ∙ list_any-append p (numbers_from 0 i) (i ∷ [])
+    ∙ ap (λ b. list_any p (numbers_from 0 i) || b) (sym (or_false (p i)))
+
+-- one record more
+pub ended_more : (count : ℕ) (marks : List TurnMark) (i : ℕ) (old new : List Bool) → new ≡ break_in (ended_by marks i) old → AreEnded count marks i old → AreEnded count marks (i + 1) new
+ended_more count marks i old new is were =
+    subst (AreEnded count marks (i + 1)) (sym is)
+    (record {
+      long = length-break_in (ended_by marks i) old ∙ were.long;
+      each = λ k h.
+          break_in_more (ended_by marks i) (list_any (λ number. is_turn k (ended_by marks number)) (numbers_from 0 i)) k old (subst (λ n. k < n) (sym were.long) h) (were.each k h)
+          ∙ ap Some (sym (any-more (λ number. is_turn k (ended_by marks number)) i));
+    })
+
+-- those of all
+pub ended_are : (marks : List TurnMark) (i : ℕ) (ended : List Bool) → i ≡ length marks → AreEnded (turn_count 0 marks) marks i ended → ended ≡ ends_of marks
+ended_are marks i ended all are =
+    by_number (is_ended_in marks) (turn_count 0 marks) ended are.long
+    (λ k h. are.each k h ∙ ap (λ n. Some (list_any (λ number. is_turn k (ended_by marks number)) (numbers_from 0 n))) all)
 
 -- ---- what is given turn after turn
 

@@ -6,10 +6,9 @@ use Rattle.aud_client.specs.StaySeen.{StaySeen}
 use Rattle.aud_session_facts.specs.declared.marks.TurnMark.{TurnMark}
 use Rattle.aud_causes.specs.declared.cause.Cause.{Cause}
 use Rattle.aud_causes.specs.Cleared.{cleared_after_break}
-use Rattle.aud_causes.specs.Differences.{cause_and}
 use Rattle.aud_causes.specs.Logs.{recoveries}
-use Rattle.aud_causes.specs.Turns.{begins_of, breaks_of, missing_causes}
-use Rattle.aud_causes.specs.Twice.{first_twice, twice_causes}
+use Rattle.aud_causes.specs.Turns.{begins_of, breaks_of, ends_of, missing_causes}
+use Rattle.aud_causes.specs.Twice.{twice_causes}
 
 -- the causes, where these are all records that begin or end turns of the session, and these the stays of its client's
 -- tap whose reply names it: no log has a turn's begin, or its break; the session is cleared up after its break; two
@@ -17,4 +16,5 @@ use Rattle.aud_causes.specs.Twice.{first_twice, twice_causes}
 abbrev pub chain_causes : Cluster → Text → List TurnMark → List StaySeen → List Cause
 chain_causes c pid marks stays =
     missing_causes (begins_of marks) (breaks_of marks) (recoveries stays)
-    ++ cause_and (cleared_after_break c pid) (twice_causes marks (first_twice (begins_of marks) marks))
+    ++ cleared_after_break c pid
+    ++ twice_causes (begins_of marks) (ends_of marks) marks

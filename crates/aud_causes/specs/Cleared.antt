@@ -1,6 +1,6 @@
 -- A session that is cleared up after its break: in a node's log a `leave` or its `gone` stands after the `break`, and no
 -- record between them begins a turn.
-use Rattle.std.specs.Prelude.{ℕ, List, [], ◌∷◌, Option, Some, None, slice_get}
+use Rattle.std.specs.Prelude.{ℕ, List, [], ◌∷◌, flat_map, Option, Some, None, option_to_list, slice_get}
 use Rattle.std.specs.Option.{option_and_then, option_or}
 use Rattle.aud_tap.specs.declared.records.NodeRec.{NodeRec}
 use Rattle.aud_tap.specs.declared.records.NodeRec.TheVariants as rec
@@ -49,11 +49,10 @@ first_cleared log node broke (number ∷ numbers) =
 abbrev pub cleared_on : Cluster → Text → ℕ → Option Cause
 cleared_on c pid node = option_and_then (λ (tap : NodeTap). first_cleared tap.recs node None (own_numbers tap.recs pid)) (node_at c node)
 
--- that on the first of these nodes that has one
-abbrev pub cleared_in : Cluster → Text → List ℕ → Option Cause
-cleared_in c pid [] = None
-cleared_in c pid (node ∷ nodes) = option_or (cleared_on c pid node) (cleared_in c pid nodes)
+-- that on each of these nodes that has one
+abbrev pub cleared_in : Cluster → Text → List ℕ → List Cause
+cleared_in c pid nodes = flat_map (λ node. option_to_list (cleared_on c pid node)) nodes
 
--- that on the first of all nodes
-abbrev pub cleared_after_break : Cluster → Text → Option Cause
+-- that on each node
+abbrev pub cleared_after_break : Cluster → Text → List Cause
 cleared_after_break c pid = cleared_in c pid (own_places c pid)

@@ -1,11 +1,9 @@
 -- A session's last turn, by the records that begin and end turns.
-use Rattle.std.specs.Prelude.{ℕ, ◌-◌, Bool, true, false, ◌&&◌, List, Option, nat_eq, nat_lt}
+use Rattle.std.specs.Prelude.{ℕ, ◌-◌, Bool, ◌&&◌, List, Option, nat_eq, nat_lt}
 use Rattle.std.specs.List.{list_any}
-use Rattle.aud_session_facts.specs.declared.marks.Mark.{Mark}
-use Rattle.aud_session_facts.specs.declared.marks.Mark.TheVariants as mark
 use Rattle.aud_session_facts.specs.declared.marks.TurnMark.{TurnMark}
 use Rattle.aud_session_facts.specs.declared.place.RecordPlace.{RecordPlace}
-use Rattle.aud_causes.specs.Turns.{begin_of, turn_count}
+use Rattle.aud_causes.specs.Turns.{begin_of, is_end, turn_count}
 
 -- the number of the last turn that one of these begins
 abbrev pub last_turn : List TurnMark → ℕ
@@ -14,12 +12,6 @@ last_turn marks = turn_count 0 marks - 1
 -- the first record that begins it
 abbrev pub last_begin : List TurnMark → Option RecordPlace
 last_begin marks = begin_of marks (last_turn marks)
-
--- a `break`, or the `gone`
-abbrev pub is_end : Mark → Bool
-is_end (mark.Break turn) = true
-is_end mark.Gone = true
-is_end _ = false
 
 -- it stands after this record in the same log, and ends a turn
 abbrev pub ends_after : RecordPlace → TurnMark → Bool

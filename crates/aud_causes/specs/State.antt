@@ -1,5 +1,5 @@
 -- How a cause stands among those that hold of one fault.
-use Rattle.std.specs.Prelude.{Bool, true, false, not, ◌||◌, List, count_by, length, if◌then◌else◌, nat_eq}
+use Rattle.std.specs.Prelude.{ℕ, Bool, true, false, not, ◌||◌, List, count_by, length, if◌then◌else◌, nat_eq}
 use Rattle.aud_explanation.specs.declared.cause.CauseState.{CauseState}
 use Rattle.aud_explanation.specs.declared.cause.CauseState.TheVariants.{Certain, Holds, Fits}
 use Rattle.aud_causes.specs.declared.cause.Cause.{Cause}
@@ -33,6 +33,11 @@ abbrev pub state_beside : Bool → CauseState
 state_beside true = Holds
 state_beside false = Fits
 
--- how a cause stands among these, which are all that hold, where there are others that were ruled out, or not
+-- how a cause stands among so many that hold, of which only one is not so, or not, where there are others that were
+-- ruled out, or not
+abbrev pub state_among : Bool → ℕ → Bool → Cause → CauseState
+state_among others count one cause = if nat_eq count 1 then lone_state others else state_beside (is_apart cause || one)
+
+-- the same among these, which are all that hold
 abbrev pub state_of : Bool → List Cause → Cause → CauseState
-state_of others found cause = if nat_eq (length found) 1 then lone_state others else state_beside (is_apart cause || has_one_other found)
+state_of others found cause = state_among others (length found) (has_one_other found) cause

@@ -1,6 +1,6 @@
 -- The turns of a session that have no begin or no break. Both are looked for in all turns, up to the last that a record
 -- begins.
-use Rattle.std.specs.Prelude.{ℕ, suc, Bool, false, ◌++◌, List, [], ◌∷◌, flat_map, length, map, Option, Some, None, option_to_list, nat_eq, nat_lt, if◌then◌else◌, slice_get}
+use Rattle.std.specs.Prelude.{ℕ, suc, Bool, true, false, ◌&&◌, ◌++◌, List, [], ◌∷◌, flat_map, length, map, Option, Some, None, option_to_list, nat_eq, nat_lt, if◌then◌else◌, slice_get}
 use Rattle.std.specs.List.{find, list_any}
 use Rattle.std.specs.Option.{option_map, option_and_then}
 use Rattle.aud_base.specs.Lists.{numbers_from}
@@ -24,6 +24,12 @@ begun_turn _ = None
 abbrev pub broken_turn : Mark → Option ℕ
 broken_turn (mark.Break turn) = Some turn
 broken_turn _ = None
+
+-- it is a `break`, or the `gone`
+abbrev pub is_end : Mark → Bool
+is_end (mark.Break turn) = true
+is_end mark.Gone = true
+is_end _ = false
 
 -- it is this turn
 abbrev pub is_turn : ℕ → Option ℕ → Bool
@@ -55,6 +61,23 @@ begins_of marks = map (begin_of marks) (numbers_from 0 (turn_count 0 marks))
 -- of each turn whether a record breaks it
 abbrev pub breaks_of : List TurnMark → List Bool
 breaks_of marks = map (is_broken marks) (numbers_from 0 (turn_count 0 marks))
+
+-- the turn that this record begins, where the next one stands in the same log and ends a turn
+abbrev pub ended_turn : Option TurnMark → Option TurnMark → Option ℕ
+ended_turn (Some m) (Some next) = if nat_eq next.place.node m.place.node && is_end next.mark then begun_turn m.mark else None
+ended_turn _ _ = None
+
+-- the same of the record with this number, and the next of these: those of a log stand together, in its order
+abbrev pub ended_by : List TurnMark → ℕ → Option ℕ
+ended_by marks number = ended_turn (slice_get marks number) (slice_get marks (suc number))
+
+-- a record begins the turn, and the next one in its log ends it, by a `break` of whichever number, or the `gone`
+abbrev pub is_ended_in : List TurnMark → ℕ → Bool
+is_ended_in marks turn = list_any (λ number. is_turn turn (ended_by marks number)) (numbers_from 0 (length marks))
+
+-- of each turn whether its log ends it so
+abbrev pub ends_of : List TurnMark → List Bool
+ends_of marks = map (is_ended_in marks) (numbers_from 0 (turn_count 0 marks))
 
 -- ---- the causes
 

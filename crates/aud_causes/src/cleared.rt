@@ -1,32 +1,43 @@
 //! A session that is cleared up after its break.
-ghost use Rattle.std.specs.Prelude.{◌≡◌, None};
+ghost use Rattle.std.specs.Prelude.{◌≡◌, ◌++◌, None, OnOk};
 ghost use Rattle.std.specs.Option.{option_copied};
 ghost use Rattle.aud_node.specs.OwnRecords.{own_numbers};
 ghost use Rattle.aud_causes.specs.Cleared.{broke_by, cleared_after_break, cleared_at, cleared_by, cleared_in, cleared_on, first_cleared};
 
 use crate::cause::Cause;
+use crate::list::push_cause;
 use aud_node::{Logs, NodeLog};
 use aud_session_facts::RecordPlace;
 use aud_tap::NodeRec;
+use std::alloc::AllocError;
 
-/// Where a node's log has a `leave` or the `gone` of the session after its `break`, and no turn of it begins between
-/// them: the first such record. It costs the session's own records.
-pub(crate) fn cleared_after_break(logs: &Logs<'_>, pid: &str) -> Option<Cause>
-    ensures { result ≡ cleared_after_break logs.now pid.now }
+/// Adds of each node where its log has a `leave` or the `gone` of the session after its `break`, and no turn of it begins
+/// between them: the first such record. It costs the session's own records.
+pub(crate) fn push_cleared(
+    logs: &Logs<'_>,
+    pid: &str,
+    found: &mut Vec<Cause>,
+) -> Result<(), AllocError>
+    ensures { OnOk result (found.new.items
+        ≡ found.old.items ++ cleared_after_break logs.now pid.now) }
 {
-    cleared_in(logs, pid, logs.nodes_of(pid))
+    push_cleared_on(logs, pid, logs.nodes_of(pid), found)
 }
 
-/// That on the first of these nodes that has one.
-fn cleared_in(logs: &Logs<'_>, pid: &str, nodes: &[usize]) -> Option<Cause>
-    ensures { result ≡ cleared_in logs.now pid.now nodes.now }
+/// The same of these nodes.
+fn push_cleared_on(
+    logs: &Logs<'_>,
+    pid: &str,
+    nodes: &[usize],
+    found: &mut Vec<Cause>,
+) -> Result<(), AllocError>
+    ensures { OnOk result (found.new.items
+        ≡ found.old.items ++ cleared_in logs.now pid.now nodes.now) }
 {
     for node in nodes {
-        if let Some(cause) = cleared_on(logs, pid, *node) {
-            return Some(cause);
-        }
+        push_cause(found, cleared_on(logs, pid, *node))?;
     }
-    None
+    Ok(())
 }
 
 /// The first in the log of this node.

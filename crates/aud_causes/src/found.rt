@@ -9,7 +9,7 @@ use crate::cause::Cause;
 use crate::causes::place_of;
 use crate::lines::lines_at;
 use crate::record_at::records_in;
-use crate::state::state_of;
+use crate::state::{has_one_other, state_among};
 use crate::table::row_of;
 use crate::texts::push_texts;
 use crate::why::filled;
@@ -48,8 +48,9 @@ pub(crate) fn shown_causes(
         (place_of (option_copied tap.entry)) numbers.now others found.now) }
 {
     let mut causes = Vec::new(alloc);
+    let one = has_one_other(found);
     for cause in found {
-        let state = state_of(others, found, *cause);
+        let state = state_among(others, found.len(), one, *cause);
         causes.push(shown_cause(alloc, sheet, tap, numbers, state, *cause)?)?;
     }
     Ok(causes)

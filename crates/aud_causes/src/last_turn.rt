@@ -1,7 +1,7 @@
 //! A session's last turn, by the records that begin and end turns.
 ghost use Rattle.std.specs.Prelude.{◌≡◌};
-ghost use Rattle.aud_causes.specs.LastTurn.{ends_after, is_end, is_ended, last_begin, last_turn};
-ghost use Rattle.aud_causes.specs.Turns.{begin_of, is_broken, is_turn};
+ghost use Rattle.aud_causes.specs.LastTurn.{ends_after, is_ended, last_begin, last_turn};
+ghost use Rattle.aud_causes.specs.Turns.{begin_of, is_broken, is_end, is_turn};
 
 use crate::turns::{begun_turn, broken_turn, turn_count};
 use aud_session_facts::{Mark, RecordPlace, TurnMark};
@@ -77,7 +77,8 @@ fn ends_after(begin: RecordPlace, mark: TurnMark) -> bool
     is_end(mark.mark)
 }
 
-fn is_end(mark: Mark) -> bool
+/// Whether such a record ends a turn.
+pub(crate) fn is_end(mark: Mark) -> bool
     ensures { result ≡ is_end mark }
 {
     match mark {

@@ -1,15 +1,16 @@
 //! What a break in the chain of a session's turns may come from.
-ghost use Rattle.std.specs.Prelude.{◌≡◌, ◌++◌, ◌<◌, IfOk, OnOk, length, map};
+ghost use Rattle.std.specs.Prelude.{◌≡◌, ◌++◌, ◌<◌, IfOk, OnOk, Some, length, map};
 ghost use Rattle.aud_causes.specs.Chain.{chain_causes};
 ghost use Rattle.aud_causes.specs.Logs.{recoveries};
-ghost use Rattle.aud_causes.specs.Private.Noting.{with_begin, with_break};
-ghost use Rattle.aud_causes.specs.Turns.{begins_of, begun_turn, breaks_of, broken_turn, count_with, missing_break, missing_breaks, missing_causes, not_tapped, turn_count, unbroken_at};
+ghost use Rattle.aud_causes.specs.Private.Noting.{break_in, with_begin, with_break};
+ghost use Rattle.aud_causes.specs.Turns.{begins_of, begun_turn, breaks_of, broken_turn, count_with, ended_by, ended_turn, ends_of, missing_break, missing_breaks, missing_causes, not_tapped, turn_count, unbroken_at};
 
 use crate::cause::Cause;
-use crate::cleared::cleared_after_break;
+use crate::cleared::push_cleared;
+use crate::last_turn::is_end;
 use crate::list::push_cause;
 use crate::logs::recoveries;
-use crate::twice::{first_twice, push_twice};
+use crate::twice::push_twice;
 use aud_client::Stay;
 use aud_node::Logs;
 use aud_session_facts::{Mark, RecordPlace, TurnMark};
@@ -36,9 +37,10 @@ pub(crate) fn chain_causes(
         ≡ chain_causes logs.now pid.now marks.now (map (λ stay. stay.now) stays.now)) }
 {
     let begins = begins_of(alloc, marks)?;
+    let ended = ends_of(alloc, marks)?;
     let mut found = missing_causes(alloc, marks, &begins, stays)?;
-    push_cause(&mut found, cleared_after_break(logs, pid))?;
-    push_twice(&mut found, marks, first_twice(&begins, marks))?;
+    push_cleared(logs, pid, &mut found)?;
+    push_twice(&mut found, &begins, &ended, marks)?;
     Ok(found)
 }
 
@@ -143,13 +145,54 @@ fn breaks_of(alloc: Global, marks: &[TurnMark]) -> Result<Vec<bool>, AllocError>
 fn note_break(broken: &mut Vec<bool>, mark: TurnMark)
     ensures { broken.new.items ≡ with_break mark broken.old.items }
 {
-    let Some(turn) = broken_turn(mark.mark) else {
+    note_turn(broken, broken_turn(mark.mark))
+}
+
+/// Notes that this holds of the turn, if it is one of these.
+fn note_turn(turns: &mut Vec<bool>, turn: Option<u16>)
+    ensures { turns.new.items ≡ break_in turn turns.old.items }
+{
+    let Some(turn) = turn else {
         return;
     };
     let turn = turn as usize;
-    if turn < broken.len() {
-        broken[turn] = true;
+    if turn < turns.len() {
+        turns[turn] = true;
     }
+}
+
+/// Of each turn whether the log of a record that begins it ends it there, by a `break` of whichever number, or the `gone`.
+fn ends_of(alloc: Global, marks: &[TurnMark]) -> Result<Vec<bool>, AllocError>
+    ensures { IfOk result (λ ended. ended.items ≡ ends_of marks.now) }
+{
+    let mut ended = vec![in alloc; false; turn_count(marks)]?;
+    for number in 0..marks.len() {
+        note_turn(&mut ended, ended_by(marks, number));
+    }
+    Ok(ended)
+}
+
+/// The turn that the record with this number begins, if the next one of the session in its log ends a turn.
+fn ended_by(marks: &[TurnMark], number: usize) -> Option<u16>
+    requires { number < length marks.now }
+    ensures { result ≡ ended_by marks.now number }
+{
+    match (marks.get(number), marks.get(number + 1)) {
+        (Some(begin), Some(next)) => ended_turn(*begin, *next),
+        _ => None,
+    }
+}
+
+fn ended_turn(begin: TurnMark, next: TurnMark) -> Option<u16>
+    ensures { result ≡ ended_turn (Some begin) (Some next) }
+{
+    if next.place.node != begin.place.node {
+        return None;
+    }
+    if !is_end(next.mark) {
+        return None;
+    }
+    begun_turn(begin.mark)
 }
 
 /// That no log has the begin of a turn, where these are the begins.

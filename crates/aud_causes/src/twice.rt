@@ -1,9 +1,9 @@
 //! A turn for which two records take the session back.
 ghost use Rattle.std.specs.Prelude.{◌≡◌, ◌++◌, OnOk};
-ghost use Rattle.aud_causes.specs.Twice.{back_turn, first_twice, is_place, recovered_twice, turn_not_stored, twice_at, twice_causes};
+ghost use Rattle.std.specs.Option.{option_copied};
+ghost use Rattle.aud_causes.specs.Twice.{back_turn, causes_of_twice, is_place, is_so, recovered_twice, turn_not_stored, twice_at, twice_causes};
 
 use crate::cause::Cause;
-use crate::last_turn::is_ended;
 use crate::list::push_cause;
 use aud_session_facts::{Mark, RecordPlace, TurnMark};
 use std::alloc::AllocError;
@@ -16,17 +16,21 @@ pub struct Twice {
     pub again: RecordPlace,
 }
 
-/// The first of these records that takes the session back for a turn that another one begins, where these are the
-/// turns' first begins.
-pub(crate) fn first_twice(begins: &[Option<RecordPlace>], marks: &[TurnMark]) -> Option<Twice>
-    ensures { result ≡ first_twice begins.now marks.now }
+/// Adds the causes of each of these records that takes the session back for a turn that another one begins, where these
+/// are the turns' first begins, and whether their logs end them.
+pub(crate) fn push_twice(
+    found: &mut Vec<Cause>,
+    begins: &[Option<RecordPlace>],
+    ended: &[bool],
+    marks: &[TurnMark],
+) -> Result<(), AllocError>
+    ensures { OnOk result (found.new.items
+        ≡ found.old.items ++ twice_causes begins.now ended.now marks.now) }
 {
     for mark in marks {
-        if let Some(twice) = twice_at(begins, *mark) {
-            return Some(twice);
-        }
+        push_causes(found, ended, twice_at(begins, *mark))?;
     }
-    None
+    Ok(())
 }
 
 fn twice_at(begins: &[Option<RecordPlace>], mark: TurnMark) -> Option<Twice>
@@ -65,33 +69,43 @@ fn is_place(a: RecordPlace, b: RecordPlace) -> bool
 }
 
 /// Adds the causes of such a turn, if there is one.
-pub(crate) fn push_twice(
+fn push_causes(
     found: &mut Vec<Cause>,
-    marks: &[TurnMark],
+    ended: &[bool],
     twice: Option<Twice>,
 ) -> Result<(), AllocError>
     ensures { OnOk result (found.new.items
-        ≡ found.old.items ++ twice_causes marks.now twice) }
+        ≡ found.old.items ++ causes_of_twice ended.now twice) }
 {
     let Some(twice) = twice else {
         return Ok(());
     };
-    push_cause(found, turn_not_stored(marks, twice))?;
+    push_cause(found, turn_not_stored(ended, twice))?;
     push_cause(found, recovered_twice(twice))
 }
 
-/// Where one of the two turns is ended in its log.
-fn turn_not_stored(marks: &[TurnMark], twice: Twice) -> Option<Cause>
-    ensures { result ≡ turn_not_stored marks.now twice }
+/// Where the log of a record that begins the turn ends it.
+fn turn_not_stored(ended: &[bool], twice: Twice) -> Option<Cause>
+    ensures { result ≡ turn_not_stored ended.now twice }
 {
-    if is_ended(marks, twice.first) || is_ended(marks, twice.again) {
-        return Some(Cause::TurnNotStored {
-            turn: twice.turn,
-            first: twice.first,
-            again: twice.again,
-        });
+    if !is_so(ended.get(twice.turn)) {
+        return None;
     }
-    None
+    Some(Cause::TurnNotStored {
+        turn: twice.turn,
+        first: twice.first,
+        again: twice.again,
+    })
+}
+
+/// Whether it is known of the turn, and so.
+fn is_so(known: Option<&bool>) -> bool
+    ensures { result ≡ is_so (option_copied known.entry) }
+{
+    match known {
+        Some(holds) => *holds,
+        None => false,
+    }
 }
 
 /// Where they stand in the logs of two nodes.

@@ -1,5 +1,5 @@
 -- The causes of a fault for which a session has no certificate have names of that fault's list.
-use Rattle.std.proofs.Common.{◌≡◌, ℕ, suc, zero, Bool, true, List, [], ◌∷◌, Option, Some, None, ◌||◌, length, nat_eq, nat_le, nat_lt, not, refl, slice_get}
+use Rattle.std.proofs.Common.{◌≡◌, ℕ, suc, zero, Bool, true, List, [], ◌∷◌, Option, Some, None, ◌++◌, length, nat_eq, nat_le, nat_lt, not, refl, slice_get}
 use Rattle.std.specs.Prelude.{option_to_list}
 use Rattle.std.specs.Cmp.Derive.{both_true}
 use Rattle.std.specs.List.{list_all}
@@ -24,13 +24,12 @@ use Rattle.aud_causes.specs.declared.turns.Unbroken.{Unbroken}
 use Rattle.aud_causes.specs.declared.twice.Twice.{Twice}
 use Rattle.aud_causes.specs.Chain.{chain_causes}
 use Rattle.aud_causes.specs.Cleared.{broke_by, cleared_after_break, cleared_at, cleared_by, cleared_in, cleared_on, first_cleared, place_on}
-use Rattle.aud_causes.specs.LastTurn.{is_ended}
 use Rattle.aud_causes.specs.Logs.{first_cause, later_cause, order_cause, record_cause, recoveries, take_cause, taken_again, takes_cause, unknown}
 use Rattle.aud_causes.specs.Names.{client_causes, orphan_from, reply_missing}
 use Rattle.aud_causes.specs.Recorded.{first_own, no_log_cause, opened_by, order_causes}
-use Rattle.aud_causes.specs.Turns.{begins_of, breaks_of, missing_break, missing_breaks, missing_causes, not_tapped, unbroken_at, went_on}
+use Rattle.aud_causes.specs.Turns.{begins_of, breaks_of, ends_of, missing_break, missing_breaks, missing_causes, not_tapped, unbroken_at, went_on}
 use Rattle.aud_causes.specs.Differences.{cause_and}
-use Rattle.aud_causes.specs.Twice.{first_twice, recovered_twice, turn_not_stored, twice_causes}
+use Rattle.aud_causes.specs.Twice.{causes_of_twice, is_so, recovered_twice, turn_not_stored, twice_at, twice_causes}
 use Rattle.aud_causes.proofs.Listed.Each.{OfSome, is_listed, of_and, of_both, of_choice, of_each, of_held, of_if, of_list, of_map, of_or, of_then}
 
 -- ---- NOLOG
@@ -85,34 +84,37 @@ first_cleared_listed log node broke (number ∷ numbers) =
     (of_then in_chain (λ (b : RecordPlace). cleared_by b place r) (λ b. cleared_by_listed b place r) broke)
     (first_cleared_listed log node (broke_by place r broke) numbers)
 
-cleared_listed : (c : Cluster) (pid : Text) (nodes : List ℕ) → OfSome in_chain (cleared_in c pid nodes)
-cleared_listed c pid [] = tt
-cleared_listed c pid (node ∷ nodes) =
-    of_or in_chain (cleared_on c pid node) (cleared_in c pid nodes)
+cleared_listed : (c : Cluster) (pid : Text) (nodes : List ℕ) → list_all in_chain (cleared_in c pid nodes) ≡ true
+cleared_listed c pid nodes =
+    of_each in_chain (λ node. option_to_list (cleared_on c pid node))
+    (λ node.
+    of_list in_chain (cleared_on c pid node)
     (of_then in_chain (λ (tap : NodeTap). first_cleared tap.recs node None (own_numbers tap.recs pid))
     (λ tap. first_cleared_listed tap.recs node None (own_numbers tap.recs pid))
-    (node_at c node))
-    (cleared_listed c pid nodes)
+    (node_at c node)))
+    nodes
 
-twice_listed : (marks : List TurnMark) (twice : Option Twice) → list_all in_chain (twice_causes marks twice) ≡ true
-twice_listed marks None = refl
-twice_listed marks (Some t) =
-    of_and in_chain (turn_not_stored marks t) (cause_and (recovered_twice t) [])
-    (of_if in_chain (is_ended marks t.first || is_ended marks t.again) (TurnNotStored t.turn t.first t.again) refl)
+twice_listed : (ended : List Bool) (twice : Option Twice) → list_all in_chain (causes_of_twice ended twice) ≡ true
+twice_listed ended None = refl
+twice_listed ended (Some t) =
+    of_and in_chain (turn_not_stored ended t) (cause_and (recovered_twice t) [])
+    (of_if in_chain (is_so (slice_get ended t.turn)) (TurnNotStored t.turn t.first t.again) refl)
     (of_and in_chain (recovered_twice t) []
     (of_if in_chain (not (nat_eq t.first.node t.again.node)) (RecoveredTwice t.turn t.first t.again) refl)
     refl)
 
 pub chain_listed : (c : Cluster) (pid : Text) (marks : List TurnMark) (stays : List StaySeen) → list_all in_chain (chain_causes c pid marks stays) ≡ true
 chain_listed c pid marks stays =
-    let twice = twice_causes marks (first_twice (begins_of marks) marks) in
+    let twice = twice_causes (begins_of marks) (ends_of marks) marks in
     of_both in_chain
     (missing_causes (begins_of marks) (breaks_of marks) (recoveries stays))
-    (cause_and (cleared_after_break c pid) twice)
+    (cleared_after_break c pid ++ twice)
     (missing_listed (begins_of marks) (breaks_of marks) (recoveries stays))
-    (of_and in_chain (cleared_after_break c pid) twice
+    (of_both in_chain (cleared_after_break c pid) twice
     (cleared_listed c pid (own_places c pid))
-    (twice_listed marks (first_twice (begins_of marks) marks)))
+    (of_each in_chain (λ m. causes_of_twice (ends_of marks) (twice_at (begins_of marks) m))
+    (λ m. twice_listed (ends_of marks) (twice_at (begins_of marks) m))
+    marks))
 
 -- ---- ORDER
 
