@@ -129,7 +129,7 @@ row_of (ClearedAfterBreak broke cleared) = row (codes "cleared-after-break") (No
     (codes "The log of # clears the session up after its break, by a `leave` or its `gone`.") (Name cleared.node ∷ [])
     (codes "write no `leave` and no `gone` for what is cleared up after a break.")
 row_of (TurnNotStored turn first again) = row (codes "turn-not-stored") (Node first ∷ Node again ∷ [])
-    (codes "Two records take the session back as turn #, and one of these turns was ended.") (Number turn ∷ [])
+    (codes "Two records take the session back as turn #; a log ends that turn, or the client has a recovery for each.") (Number turn ∷ [])
     (codes "store the turn with the session, and write the next one into its `back`.")
 row_of (RecoveredTwice turn first again) = row (codes "recovered-twice") (Node first ∷ Node again ∷ [])
     (codes "Two nodes took the session back as turn #.") (Number turn ∷ [])

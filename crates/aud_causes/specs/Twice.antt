@@ -1,5 +1,5 @@
 -- A turn for which two records take the session back.
-use Rattle.std.specs.Prelude.{ℕ, Bool, false, not, ◌&&◌, List, [], flat_map, Option, Some, None, if◌then◌else◌, nat_eq, slice_get}
+use Rattle.std.specs.Prelude.{ℕ, Bool, true, false, not, ◌&&◌, ◌||◌, List, [], count_by, flat_map, length, Option, Some, None, if◌then◌else◌, nat_eq, nat_le, slice_get}
 use Rattle.std.specs.Option.{option_and_then}
 use Rattle.aud_session_facts.specs.declared.marks.Mark.{Mark}
 use Rattle.aud_session_facts.specs.declared.marks.Mark.TheVariants as mark
@@ -15,6 +15,11 @@ use Rattle.aud_causes.specs.Differences.{cause_and}
 abbrev pub back_turn : Mark → Option ℕ
 back_turn (mark.Back turn) = Some turn
 back_turn _ = None
+
+-- it is a `back`
+abbrev pub is_back : Mark → Bool
+is_back (mark.Back turn) = true
+is_back _ = false
 
 -- the two are one place
 abbrev pub is_place : RecordPlace → RecordPlace → Bool
@@ -36,19 +41,24 @@ abbrev pub is_so : Option Bool → Bool
 is_so None = false
 is_so (Some holds) = holds
 
--- the log of a record that begins the turn ends it: the session went on from it
-abbrev pub turn_not_stored : List Bool → Twice → Option Cause
-turn_not_stored ended t = cause_if (is_so (slice_get ended t.turn)) (TurnNotStored t.turn t.first t.again)
+-- the client came back at least as often as these records take the session back, where these are its recoveries
+abbrev pub is_as_often : List TurnMark → List ℕ → Bool
+is_as_often marks came = nat_le (count_by (λ (m : TurnMark). is_back m.mark) marks) (length came)
+
+-- the client came back for each `back`, one after the other, or the log of a record that begins the turn ends it: so the
+-- session went on from one of the two to the other
+abbrev pub turn_not_stored : List Bool → Bool → Twice → Option Cause
+turn_not_stored ended as_often t = cause_if (as_often || is_so (slice_get ended t.turn)) (TurnNotStored t.turn t.first t.again)
 
 -- they stand in the logs of two nodes
 abbrev pub recovered_twice : Twice → Option Cause
 recovered_twice t = cause_if (not (nat_eq t.first.node t.again.node)) (RecoveredTwice t.turn t.first t.again)
 
 -- both, if there is such a turn: the turn was not stored with the session; two nodes took one stored session back
-abbrev pub causes_of_twice : List Bool → Option Twice → List Cause
-causes_of_twice ended None = []
-causes_of_twice ended (Some t) = cause_and (turn_not_stored ended t) (cause_and (recovered_twice t) [])
+abbrev pub causes_of_twice : List Bool → Bool → Option Twice → List Cause
+causes_of_twice ended as_often None = []
+causes_of_twice ended as_often (Some t) = cause_and (turn_not_stored ended as_often t) (cause_and (recovered_twice t) [])
 
 -- those of each of these records, where these are the turns' first begins, and whether their logs end them
-abbrev pub twice_causes : List (Option RecordPlace) → List Bool → List TurnMark → List Cause
-twice_causes begins ended marks = flat_map (λ m. causes_of_twice ended (twice_at begins m)) marks
+abbrev pub twice_causes : List (Option RecordPlace) → List Bool → Bool → List TurnMark → List Cause
+twice_causes begins ended as_often marks = flat_map (λ m. causes_of_twice ended as_often (twice_at begins m)) marks

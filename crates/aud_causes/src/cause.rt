@@ -132,7 +132,7 @@ pub enum Cause {
         broke: RecordPlace,
         cleared: RecordPlace,
     },
-    /// Two records take the session back for one turn, and one of these turns was ended.
+    /// Two records take the session back for one turn, and a log ends that turn, or the client has a recovery for each.
     TurnNotStored {
         turn: usize,
         first: RecordPlace,

@@ -216,7 +216,7 @@ pub(crate) fn row_of(cause: Cause) -> Row
         Cause::TurnNotStored { turn, first, again } => Row {
             id: "turn-not-stored",
             records: Two(Node(first), Node(again)),
-            why: "Two records take the session back as turn #, and one of these turns was ended.",
+            why: "Two records take the session back as turn #; a log ends that turn, or the client has a recovery for each.",
             figures: [Some(Number(turn as u64)), None, None],
             todo: "store the turn with the session, and write the next one into its `back`.",
         },

@@ -1,7 +1,6 @@
 //! What a break in the chain of a session's turns may come from.
 ghost use Rattle.std.specs.Prelude.{◌≡◌, ◌++◌, ◌<◌, IfOk, OnOk, Some, length, map};
 ghost use Rattle.aud_causes.specs.Chain.{chain_causes};
-ghost use Rattle.aud_causes.specs.Logs.{recoveries};
 ghost use Rattle.aud_causes.specs.Private.Noting.{break_in, with_begin, with_break};
 ghost use Rattle.aud_causes.specs.Turns.{begins_of, begun_turn, breaks_of, broken_turn, count_with, ended_by, ended_turn, ends_of, missing_break, missing_breaks, missing_causes, not_tapped, turn_count, unbroken_at};
 
@@ -10,7 +9,7 @@ use crate::cleared::push_cleared;
 use crate::last_turn::is_end;
 use crate::list::push_cause;
 use crate::logs::recoveries;
-use crate::twice::push_twice;
+use crate::twice::{is_as_often, push_twice};
 use aud_client::Stay;
 use aud_node::Logs;
 use aud_session_facts::{Mark, RecordPlace, TurnMark};
@@ -38,28 +37,33 @@ pub(crate) fn chain_causes(
 {
     let begins = begins_of(alloc, marks)?;
     let ended = ends_of(alloc, marks)?;
-    let mut found = missing_causes(alloc, marks, &begins, stays)?;
+    let came = recoveries(alloc, stays)?;
+    let mut found = missing_causes(alloc, marks, &begins, &came)?;
     push_cleared(logs, pid, &mut found)?;
-    push_twice(&mut found, &begins, &ended, marks)?;
+    push_twice(
+        &mut found,
+        &begins,
+        &ended,
+        is_as_often(marks, &came),
+        marks,
+    )?;
     Ok(found)
 }
 
-/// Those of the turns of which no log has the begin, or the break.
+/// Those of the turns of which no log has the begin, or the break, where these are the recoveries.
 fn missing_causes(
     alloc: Global,
     marks: &[TurnMark],
     begins: &[Option<RecordPlace>],
-    stays: &[&Stay<'_>],
+    came: &[usize],
 ) -> Result<Vec<Cause>, AllocError>
     ensures { IfOk result (λ found. found.items
-        ≡ missing_causes begins.now (breaks_of marks.now)
-        (recoveries (map (λ stay. stay.now) stays.now))) }
+        ≡ missing_causes begins.now (breaks_of marks.now) came.now) }
 {
     let broken = breaks_of(alloc, marks)?;
-    let came = recoveries(alloc, stays)?;
     let mut found = Vec::new(alloc);
     push_cause(&mut found, not_tapped(begins))?;
-    push_missing(&mut found, begins, &broken, &came)?;
+    push_missing(&mut found, begins, &broken, came)?;
     Ok(found)
 }
 

@@ -1,7 +1,7 @@
 //! A turn for which two records take the session back.
 ghost use Rattle.std.specs.Prelude.{◌≡◌, ◌++◌, OnOk};
 ghost use Rattle.std.specs.Option.{option_copied};
-ghost use Rattle.aud_causes.specs.Twice.{back_turn, causes_of_twice, is_place, is_so, recovered_twice, turn_not_stored, twice_at, twice_causes};
+ghost use Rattle.aud_causes.specs.Twice.{back_turn, causes_of_twice, is_as_often, is_back, is_place, is_so, recovered_twice, turn_not_stored, twice_at, twice_causes};
 
 use crate::cause::Cause;
 use crate::list::push_cause;
@@ -17,20 +17,35 @@ pub struct Twice {
 }
 
 /// Adds the causes of each of these records that takes the session back for a turn that another one begins, where these
-/// are the turns' first begins, and whether their logs end them.
+/// are the turns' first begins, and whether their logs end them; and this whether the client came back as often.
 pub(crate) fn push_twice(
     found: &mut Vec<Cause>,
     begins: &[Option<RecordPlace>],
     ended: &[bool],
+    as_often: bool,
     marks: &[TurnMark],
 ) -> Result<(), AllocError>
     ensures { OnOk result (found.new.items
-        ≡ found.old.items ++ twice_causes begins.now ended.now marks.now) }
+        ≡ found.old.items ++ twice_causes begins.now ended.now as_often marks.now) }
 {
     for mark in marks {
-        push_causes(found, ended, twice_at(begins, *mark))?;
+        push_causes(found, ended, as_often, twice_at(begins, *mark))?;
     }
     Ok(())
+}
+
+/// Whether the client came back at least as often as these records take the session back, where these are its
+/// recoveries.
+pub(crate) fn is_as_often(marks: &[TurnMark], came: &[usize]) -> bool
+    ensures { result ≡ is_as_often marks.now came.now }
+{
+    marks.iter().filter(|mark| is_back(mark.mark)).count() <= came.len()
+}
+
+fn is_back(mark: Mark) -> bool
+    ensures { result ≡ is_back mark }
+{
+    matches!(mark, Mark::Back { .. })
 }
 
 fn twice_at(begins: &[Option<RecordPlace>], mark: TurnMark) -> Option<Twice>
@@ -72,23 +87,24 @@ fn is_place(a: RecordPlace, b: RecordPlace) -> bool
 fn push_causes(
     found: &mut Vec<Cause>,
     ended: &[bool],
+    as_often: bool,
     twice: Option<Twice>,
 ) -> Result<(), AllocError>
     ensures { OnOk result (found.new.items
-        ≡ found.old.items ++ causes_of_twice ended.now twice) }
+        ≡ found.old.items ++ causes_of_twice ended.now as_often twice) }
 {
     let Some(twice) = twice else {
         return Ok(());
     };
-    push_cause(found, turn_not_stored(ended, twice))?;
+    push_cause(found, turn_not_stored(ended, as_often, twice))?;
     push_cause(found, recovered_twice(twice))
 }
 
-/// Where the log of a record that begins the turn ends it.
-fn turn_not_stored(ended: &[bool], twice: Twice) -> Option<Cause>
-    ensures { result ≡ turn_not_stored ended.now twice }
+/// Where the client came back for each `back`, or the log of a record that begins the turn ends it.
+fn turn_not_stored(ended: &[bool], as_often: bool, twice: Twice) -> Option<Cause>
+    ensures { result ≡ turn_not_stored ended.now as_often twice }
 {
-    if !is_so(ended.get(twice.turn)) {
+    if !as_often && !is_so(ended.get(twice.turn)) {
         return None;
     }
     Some(Cause::TurnNotStored {

@@ -1,5 +1,5 @@
 -- The causes of a fault for which a session has no certificate have names of that fault's list.
-use Rattle.std.proofs.Common.{◌≡◌, ℕ, suc, zero, Bool, true, List, [], ◌∷◌, Option, Some, None, ◌++◌, length, nat_eq, nat_le, nat_lt, not, refl, slice_get}
+use Rattle.std.proofs.Common.{◌≡◌, ℕ, suc, zero, Bool, true, List, [], ◌∷◌, Option, Some, None, ◌++◌, ◌||◌, length, nat_eq, nat_le, nat_lt, not, refl, slice_get}
 use Rattle.std.specs.Prelude.{option_to_list}
 use Rattle.std.specs.Cmp.Derive.{both_true}
 use Rattle.std.specs.List.{list_all}
@@ -29,7 +29,7 @@ use Rattle.aud_causes.specs.Names.{client_causes, orphan_from, reply_missing}
 use Rattle.aud_causes.specs.Recorded.{first_own, no_log_cause, opened_by, order_causes}
 use Rattle.aud_causes.specs.Turns.{begins_of, breaks_of, ends_of, missing_break, missing_breaks, missing_causes, not_tapped, unbroken_at, went_on}
 use Rattle.aud_causes.specs.Differences.{cause_and}
-use Rattle.aud_causes.specs.Twice.{causes_of_twice, is_so, recovered_twice, turn_not_stored, twice_at, twice_causes}
+use Rattle.aud_causes.specs.Twice.{causes_of_twice, is_as_often, is_so, recovered_twice, turn_not_stored, twice_at, twice_causes}
 use Rattle.aud_causes.proofs.Listed.Each.{OfSome, is_listed, of_and, of_both, of_choice, of_each, of_held, of_if, of_list, of_map, of_or, of_then}
 
 -- ---- NOLOG
@@ -94,26 +94,27 @@ cleared_listed c pid nodes =
     (node_at c node)))
     nodes
 
-twice_listed : (ended : List Bool) (twice : Option Twice) → list_all in_chain (causes_of_twice ended twice) ≡ true
-twice_listed ended None = refl
-twice_listed ended (Some t) =
-    of_and in_chain (turn_not_stored ended t) (cause_and (recovered_twice t) [])
-    (of_if in_chain (is_so (slice_get ended t.turn)) (TurnNotStored t.turn t.first t.again) refl)
+twice_listed : (ended : List Bool) (as_often : Bool) (twice : Option Twice) → list_all in_chain (causes_of_twice ended as_often twice) ≡ true
+twice_listed ended as_often None = refl
+twice_listed ended as_often (Some t) =
+    of_and in_chain (turn_not_stored ended as_often t) (cause_and (recovered_twice t) [])
+    (of_if in_chain (as_often || is_so (slice_get ended t.turn)) (TurnNotStored t.turn t.first t.again) refl)
     (of_and in_chain (recovered_twice t) []
     (of_if in_chain (not (nat_eq t.first.node t.again.node)) (RecoveredTwice t.turn t.first t.again) refl)
     refl)
 
 pub chain_listed : (c : Cluster) (pid : Text) (marks : List TurnMark) (stays : List StaySeen) → list_all in_chain (chain_causes c pid marks stays) ≡ true
 chain_listed c pid marks stays =
-    let twice = twice_causes (begins_of marks) (ends_of marks) marks in
+    let as_often = is_as_often marks (recoveries stays) in
+    let twice = twice_causes (begins_of marks) (ends_of marks) as_often marks in
     of_both in_chain
     (missing_causes (begins_of marks) (breaks_of marks) (recoveries stays))
     (cleared_after_break c pid ++ twice)
     (missing_listed (begins_of marks) (breaks_of marks) (recoveries stays))
     (of_both in_chain (cleared_after_break c pid) twice
     (cleared_listed c pid (own_places c pid))
-    (of_each in_chain (λ m. causes_of_twice (ends_of marks) (twice_at (begins_of marks) m))
-    (λ m. twice_listed (ends_of marks) (twice_at (begins_of marks) m))
+    (of_each in_chain (λ m. causes_of_twice (ends_of marks) as_often (twice_at (begins_of marks) m))
+    (λ m. twice_listed (ends_of marks) as_often (twice_at (begins_of marks) m))
     marks))
 
 -- ---- ORDER

@@ -107,8 +107,8 @@ no P CHAIN [recording]
 cause cleared-after-break (holds, lines 8 9): The log of a clears the session up after its break, by
         a `leave` or its `gone`.
 do: write no `leave` and no `gone` for what is cleared up after a break.
-cause turn-not-stored (fits, lines 10 12): Two records take the session back as turn 1, and one of
-        these turns was ended.
+cause turn-not-stored (fits, lines 10 12): Two records take the session back as turn 1; a log ends
+        that turn, or the client has a recovery for each.
 do: store the turn with the session, and write the next one into its `back`.
 cause recovered-twice (fits, lines 10 12): Two nodes took the session back as turn 1.
 do: take a stored session out of the store in one step, so that one node alone gets it.

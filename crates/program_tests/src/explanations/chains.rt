@@ -303,8 +303,8 @@ no one client, turns 3, delivery not judged
     turn 0  a  4 open, cursor 0 == 7 break, cursor 0
     turn 1  a  8 back, cursor 0 == 9 break, cursor 0
     turn 1  b  10 back, cursor 0 == 10 log ends, cursor 0
-cause turn-not-stored (fits, lines 8 10): Two records take the session back as turn 1, and one of
-        these turns was ended.
+cause turn-not-stored (fits, lines 8 10): Two records take the session back as turn 1; a log ends
+        that turn, or the client has a recovery for each.
 do: store the turn with the session, and write the next one into its `back`.
 cause recovered-twice (fits, lines 8 10): Two nodes took the session back as turn 1.
 do: take a stored session out of the store in one step, so that one node alone gets it.
