@@ -87,29 +87,29 @@ not_tapped turn [] = None
 not_tapped turn (None ∷ begins) = Some (NodeNotTapped turn)
 not_tapped turn (Some begin ∷ begins) = not_tapped (suc turn) begins
 
--- no record breaks this turn, though the next one begins: where this is its begin, whether it is broken, and the next
--- one's begin
-abbrev pub unbroken_by : ℕ → Option (Option RecordPlace) → Option Bool → Option (Option RecordPlace) → Option Unbroken
-unbroken_by turn (Some (Some begin)) (Some false) (Some (Some back)) = Some (record { turn = turn; begin = begin; back = back })
-unbroken_by turn _ _ _ = None
+-- no record breaks this turn, and its log doesn't end it, though the next one begins: where this is its begin, whether
+-- it is broken, and ended, and the next one's begin
+abbrev pub unbroken_by : ℕ → Option (Option RecordPlace) → Option Bool → Option Bool → Option (Option RecordPlace) → Option Unbroken
+unbroken_by turn (Some (Some begin)) (Some false) (Some false) (Some (Some back)) = Some (record { turn = turn; begin = begin; back = back })
+unbroken_by turn _ _ _ _ = None
 
 -- the same of the turn with this number
-abbrev pub unbroken_at : List (Option RecordPlace) → List Bool → ℕ → Option Unbroken
-unbroken_at begins broken turn = unbroken_by turn (slice_get begins turn) (slice_get broken turn) (slice_get begins (suc turn))
+abbrev pub unbroken_at : List (Option RecordPlace) → List Bool → List Bool → ℕ → Option Unbroken
+unbroken_at begins broken ended turn = unbroken_by turn (slice_get begins turn) (slice_get broken turn) (slice_get ended turn) (slice_get begins (suc turn))
 
 -- the client went on after it, by the recovery with the turn's number among these: the cause
 abbrev pub went_on : List ℕ → Unbroken → Option Cause
 went_on came u = option_map (MissingBreak u.turn u.begin u.back) (slice_get came u.turn)
 
 -- the same of the turn with this number
-abbrev pub missing_break : List (Option RecordPlace) → List Bool → List ℕ → ℕ → Option Cause
-missing_break begins broken came turn = option_and_then (went_on came) (unbroken_at begins broken turn)
+abbrev pub missing_break : List (Option RecordPlace) → List Bool → List Bool → List ℕ → ℕ → Option Cause
+missing_break begins broken ended came turn = option_and_then (went_on came) (unbroken_at begins broken ended turn)
 
 -- of each turn
-abbrev pub missing_breaks : List (Option RecordPlace) → List Bool → List ℕ → List Cause
-missing_breaks begins broken came = flat_map (λ turn. option_to_list (missing_break begins broken came turn)) (numbers_from 0 (length begins))
+abbrev pub missing_breaks : List (Option RecordPlace) → List Bool → List Bool → List ℕ → List Cause
+missing_breaks begins broken ended came = flat_map (λ turn. option_to_list (missing_break begins broken ended came turn)) (numbers_from 0 (length begins))
 
 -- the causes: the first turn that no log begins, and all that no log breaks, where these are the begins of the turns,
--- whether each is broken, and the recoveries
-abbrev pub missing_causes : List (Option RecordPlace) → List Bool → List ℕ → List Cause
-missing_causes begins broken came = option_to_list (not_tapped 0 begins) ++ missing_breaks begins broken came
+-- whether each is broken, and ended in its log, and the recoveries
+abbrev pub missing_causes : List (Option RecordPlace) → List Bool → List Bool → List ℕ → List Cause
+missing_causes begins broken ended came = option_to_list (not_tapped 0 begins) ++ missing_breaks begins broken ended came

@@ -15,7 +15,7 @@ use aud_node::Logs;
 use aud_session_facts::{Mark, RecordPlace, TurnMark};
 use std::alloc::{AllocError, Global};
 
-/// A turn that no record breaks, though the next one begins.
+/// A turn that no record breaks, and that its log doesn't end, though the next one begins.
 #[derive(Clone, Copy, Drop)]
 pub struct Unbroken {
     pub turn: usize,
@@ -38,7 +38,7 @@ pub(crate) fn chain_causes(
     let begins = begins_of(alloc, marks)?;
     let ended = ends_of(alloc, marks)?;
     let came = recoveries(alloc, stays)?;
-    let mut found = missing_causes(alloc, marks, &begins, &came)?;
+    let mut found = missing_causes(alloc, marks, &begins, &ended, &came)?;
     push_cleared(logs, pid, &mut found)?;
     push_twice(
         &mut found,
@@ -50,20 +50,22 @@ pub(crate) fn chain_causes(
     Ok(found)
 }
 
-/// Those of the turns of which no log has the begin, or the break, where these are the recoveries.
+/// Those of the turns of which no log has the begin, or the break, where these are the turns' begins, whether their logs
+/// end them, and the recoveries.
 fn missing_causes(
     alloc: Global,
     marks: &[TurnMark],
     begins: &[Option<RecordPlace>],
+    ended: &[bool],
     came: &[usize],
 ) -> Result<Vec<Cause>, AllocError>
     ensures { IfOk result (λ found. found.items
-        ≡ missing_causes begins.now (breaks_of marks.now) came.now) }
+        ≡ missing_causes begins.now (breaks_of marks.now) ended.now came.now) }
 {
     let broken = breaks_of(alloc, marks)?;
     let mut found = Vec::new(alloc);
     push_cause(&mut found, not_tapped(begins))?;
-    push_missing(&mut found, begins, &broken, came)?;
+    push_missing(&mut found, begins, &broken, ended, came)?;
     Ok(found)
 }
 
@@ -211,33 +213,36 @@ fn not_tapped(begins: &[Option<RecordPlace>]) -> Option<Cause>
     None
 }
 
-/// Adds of each turn that the client went on after it, though no record breaks it.
+/// Adds of each turn that the client went on after it, though no record breaks it, and its log doesn't end it.
 fn push_missing(
     found: &mut Vec<Cause>,
     begins: &[Option<RecordPlace>],
     broken: &[bool],
+    ended: &[bool],
     came: &[usize],
 ) -> Result<(), AllocError>
     ensures { OnOk result (found.new.items
-        ≡ found.old.items ++ missing_breaks begins.now broken.now came.now) }
+        ≡ found.old.items ++ missing_breaks begins.now broken.now ended.now came.now) }
 {
     for turn in 0..begins.len() {
-        push_cause(found, missing_break(begins, broken, came, turn))?;
+        push_cause(found, missing_break(begins, broken, ended, came, turn))?;
     }
     Ok(())
 }
 
-/// That the client went on after this turn, by the recovery with its number among these, though no record breaks it.
+/// That the client went on after this turn, by the recovery with its number among these, though no record breaks it, and
+/// its log doesn't end it.
 fn missing_break(
     begins: &[Option<RecordPlace>],
     broken: &[bool],
+    ended: &[bool],
     came: &[usize],
     turn: usize,
 ) -> Option<Cause>
     requires { turn < length begins.now }
-    ensures { result ≡ missing_break begins.now broken.now came.now turn }
+    ensures { result ≡ missing_break begins.now broken.now ended.now came.now turn }
 {
-    let unbroken = unbroken_at(begins, broken, turn)?;
+    let unbroken = unbroken_at(begins, broken, ended, turn)?;
     Some(Cause::MissingBreak {
         turn: unbroken.turn,
         begin: unbroken.begin,
@@ -246,13 +251,23 @@ fn missing_break(
     })
 }
 
-/// The turn with this number, if no record breaks it, though the next one begins.
-fn unbroken_at(begins: &[Option<RecordPlace>], broken: &[bool], turn: usize) -> Option<Unbroken>
+/// The turn with this number, if no record breaks it, and its log doesn't end it, though the next one begins.
+fn unbroken_at(
+    begins: &[Option<RecordPlace>],
+    broken: &[bool],
+    ended: &[bool],
+    turn: usize,
+) -> Option<Unbroken>
     requires { turn < length begins.now }
-    ensures { result ≡ unbroken_at begins.now broken.now turn }
+    ensures { result ≡ unbroken_at begins.now broken.now ended.now turn }
 {
-    match (begins.get(turn), broken.get(turn), begins.get(turn + 1)) {
-        (Some(Some(begin)), Some(false), Some(Some(back))) => Some(Unbroken {
+    match (
+        begins.get(turn),
+        broken.get(turn),
+        ended.get(turn),
+        begins.get(turn + 1),
+    ) {
+        (Some(Some(begin)), Some(false), Some(false), Some(Some(back))) => Some(Unbroken {
             turn,
             begin: *begin,
             back: *back,

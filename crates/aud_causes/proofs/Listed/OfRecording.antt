@@ -59,15 +59,15 @@ not_tapped_listed turn (Some begin ∷ begins) = not_tapped_listed (suc turn) be
 went_on_listed : (came : List ℕ) (u : Unbroken) → OfSome in_chain (went_on came u)
 went_on_listed came u = of_map in_chain (MissingBreak u.turn u.begin u.back) (λ stay. refl) (slice_get came u.turn)
 
-missing_listed : (begins : List (Option RecordPlace)) (broken : List Bool) (came : List ℕ)
-    → list_all in_chain (missing_causes begins broken came) ≡ true
-missing_listed begins broken came =
-    of_both in_chain (option_to_list (not_tapped 0 begins)) (missing_breaks begins broken came)
+missing_listed : (begins : List (Option RecordPlace)) (broken ended : List Bool) (came : List ℕ)
+    → list_all in_chain (missing_causes begins broken ended came) ≡ true
+missing_listed begins broken ended came =
+    of_both in_chain (option_to_list (not_tapped 0 begins)) (missing_breaks begins broken ended came)
     (of_list in_chain (not_tapped 0 begins) (not_tapped_listed 0 begins))
-    (of_each in_chain (λ turn. option_to_list (missing_break begins broken came turn))
+    (of_each in_chain (λ turn. option_to_list (missing_break begins broken ended came turn))
     (λ turn.
-    of_list in_chain (missing_break begins broken came turn)
-    (of_then in_chain (went_on came) (went_on_listed came) (unbroken_at begins broken turn)))
+    of_list in_chain (missing_break begins broken ended came turn)
+    (of_then in_chain (went_on came) (went_on_listed came) (unbroken_at begins broken ended turn)))
     (numbers_from 0 (length begins)))
 
 cleared_by_listed : (broke place : RecordPlace) (r : Option NodeRec) → OfSome in_chain (cleared_by broke place r)
@@ -108,9 +108,9 @@ chain_listed c pid marks stays =
     let as_often = is_as_often marks (recoveries stays) in
     let twice = twice_causes (begins_of marks) (ends_of marks) as_often marks in
     of_both in_chain
-    (missing_causes (begins_of marks) (breaks_of marks) (recoveries stays))
+    (missing_causes (begins_of marks) (breaks_of marks) (ends_of marks) (recoveries stays))
     (cleared_after_break c pid ++ twice)
-    (missing_listed (begins_of marks) (breaks_of marks) (recoveries stays))
+    (missing_listed (begins_of marks) (breaks_of marks) (ends_of marks) (recoveries stays))
     (of_both in_chain (cleared_after_break c pid) twice
     (cleared_listed c pid (own_places c pid))
     (of_each in_chain (λ m. causes_of_twice (ends_of marks) as_often (twice_at (begins_of marks) m))
