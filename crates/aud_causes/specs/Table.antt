@@ -1,5 +1,5 @@
 -- All that is said of a cause: one table, with a row for each, in the order of the causes.
-use Rattle.std.specs.Prelude.{List, [], ◌∷◌, codes, flat_map, option_to_list}
+use Rattle.std.specs.Prelude.{List, [], ◌∷◌, codes, flat_map, Some, None, option_to_list}
 use Rattle.aud_node.specs.Stream.{Text}
 use Rattle.aud_check.specs.declared.content.Part.{Part}
 use Rattle.aud_check.specs.declared.content.Part.TheVariants as part
@@ -122,8 +122,11 @@ row_of (JoinMissing frame) = row (codes "join-missing") (Got frame ∷ [])
 row_of (LeaveMissing frame) = row (codes "leave-missing") (Got frame ∷ [])
     (codes "What came would fit if the session had left a room before: a `leave` may be missing.") []
     (codes "write a `leave` at once, unbuffered; look at whether the session was in that room.")
-row_of (MissingBreak turn begin back stay) = row (codes "missing-break") (Node begin ∷ Node back ∷ Ask stay ∷ Reply stay ∷ [])
+row_of (MissingBreak turn begin back (Some stay)) = row (codes "missing-break") (Node begin ∷ Node back ∷ Ask stay ∷ Reply stay ∷ [])
     (codes "The client recovered the session after turn #, so that turn broke; no log has its break.") (Number turn ∷ [])
+    (codes "write a node's log unbuffered; look at the disk and at how logs are rotated.")
+row_of (MissingBreak turn begin back None) = row (codes "missing-break") (Node begin ∷ Node back ∷ [])
+    (codes "The next turn begins, so turn # broke; no log has its break.") (Number turn ∷ [])
     (codes "write a node's log unbuffered; look at the disk and at how logs are rotated.")
 row_of (ClearedAfterBreak broke cleared) = row (codes "cleared-after-break") (Node broke ∷ Node cleared ∷ [])
     (codes "The log of # clears the session up after its break, by a `leave` or its `gone`.") (Name cleared.node ∷ [])

@@ -1,8 +1,8 @@
 -- The turns of a session that have no begin or no break. Both are looked for in all turns, up to the last that a record
 -- begins.
-use Rattle.std.specs.Prelude.{ℕ, suc, Bool, true, false, ◌&&◌, ◌++◌, List, [], ◌∷◌, flat_map, length, map, Option, Some, None, option_to_list, nat_eq, nat_lt, if◌then◌else◌, slice_get}
+use Rattle.std.specs.Prelude.{ℕ, suc, ◌-◌, Bool, true, false, ◌&&◌, ◌++◌, List, [], ◌∷◌, flat_map, length, map, Option, Some, None, option_to_list, nat_eq, nat_lt, if◌then◌else◌, slice_get}
 use Rattle.std.specs.List.{find, list_any}
-use Rattle.std.specs.Option.{option_map, option_and_then}
+use Rattle.std.specs.Option.{option_map}
 use Rattle.aud_base.specs.Lists.{numbers_from}
 use Rattle.aud_session_facts.specs.declared.marks.Mark.{Mark}
 use Rattle.aud_session_facts.specs.declared.marks.Mark.TheVariants as mark
@@ -97,13 +97,18 @@ unbroken_by turn _ _ _ _ = None
 abbrev pub unbroken_at : List (Option RecordPlace) → List Bool → List Bool → ℕ → Option Unbroken
 unbroken_at begins broken ended turn = unbroken_by turn (slice_get begins turn) (slice_get broken turn) (slice_get ended turn) (slice_get begins (suc turn))
 
--- the client went on after it, by the recovery with the turn's number among these: the cause
-abbrev pub went_on : List ℕ → Unbroken → Option Cause
-went_on came u = option_map (MissingBreak u.turn u.begin u.back) (slice_get came u.turn)
+-- the recovery after this turn: that with the turn's number among these, where they match so many turns, of which each but
+-- the first begins with one
+abbrev pub recovery_after : ℕ → List ℕ → ℕ → Option ℕ
+recovery_after count came turn = if nat_eq (length came) (count - 1) then slice_get came turn else None
+
+-- the cause, where there are so many turns, and these recoveries
+abbrev pub missing_by : ℕ → List ℕ → Unbroken → Cause
+missing_by count came u = MissingBreak u.turn u.begin u.back (recovery_after count came u.turn)
 
 -- the same of the turn with this number
 abbrev pub missing_break : List (Option RecordPlace) → List Bool → List Bool → List ℕ → ℕ → Option Cause
-missing_break begins broken ended came turn = option_and_then (went_on came) (unbroken_at begins broken ended turn)
+missing_break begins broken ended came turn = option_map (missing_by (length begins) came) (unbroken_at begins broken ended turn)
 
 -- of each turn
 abbrev pub missing_breaks : List (Option RecordPlace) → List Bool → List Bool → List ℕ → List Cause

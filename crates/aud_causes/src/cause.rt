@@ -120,12 +120,12 @@ pub enum Cause {
     LeaveMissing {
         frame: usize,
     },
-    /// The client went on after a turn of which no node has the `break`.
+    /// The session went on after a turn of which no node has the `break`, by this recovery, where it is known.
     MissingBreak {
         turn: usize,
         begin: RecordPlace,
         back: RecordPlace,
-        stay: usize,
+        stay: Option<usize>,
     },
     /// The session left a room, or was over, after its break in the same log.
     ClearedAfterBreak {

@@ -2,7 +2,7 @@
 ghost use Rattle.std.specs.Prelude.{◌≡◌, ◌++◌, ◌<◌, IfOk, OnOk, Some, length, map};
 ghost use Rattle.aud_causes.specs.Chain.{chain_causes};
 ghost use Rattle.aud_causes.specs.Private.Noting.{break_in, with_begin, with_break};
-ghost use Rattle.aud_causes.specs.Turns.{begins_of, begun_turn, breaks_of, broken_turn, count_with, ended_by, ended_turn, ends_of, missing_break, missing_breaks, missing_causes, not_tapped, turn_count, unbroken_at};
+ghost use Rattle.aud_causes.specs.Turns.{begins_of, begun_turn, breaks_of, broken_turn, count_with, ended_by, ended_turn, ends_of, missing_break, missing_breaks, missing_causes, not_tapped, recovery_after, turn_count, unbroken_at};
 
 use crate::cause::Cause;
 use crate::cleared::push_cleared;
@@ -213,7 +213,7 @@ fn not_tapped(begins: &[Option<RecordPlace>]) -> Option<Cause>
     None
 }
 
-/// Adds of each turn that the client went on after it, though no record breaks it, and its log doesn't end it.
+/// Adds of each turn that the next one begins, though no record breaks it, and its log doesn't end it.
 fn push_missing(
     found: &mut Vec<Cause>,
     begins: &[Option<RecordPlace>],
@@ -230,8 +230,7 @@ fn push_missing(
     Ok(())
 }
 
-/// That the client went on after this turn, by the recovery with its number among these, though no record breaks it, and
-/// its log doesn't end it.
+/// The same of this turn, where these are the client's recoveries.
 fn missing_break(
     begins: &[Option<RecordPlace>],
     broken: &[bool],
@@ -247,8 +246,18 @@ fn missing_break(
         turn: unbroken.turn,
         begin: unbroken.begin,
         back: unbroken.back,
-        stay: *came.get(unbroken.turn)?,
+        stay: recovery_after(begins.len(), came, unbroken.turn),
     })
+}
+
+/// The recovery after this turn, where the recoveries match so many turns.
+fn recovery_after(count: usize, came: &[usize], turn: usize) -> Option<usize>
+    ensures { result ≡ recovery_after count came.now turn }
+{
+    if came.len() != count.saturating_sub(1) {
+        return None;
+    }
+    came.get(turn).copied()
 }
 
 /// The turn with this number, if no record breaks it, and its log doesn't end it, though the next one begins.

@@ -27,7 +27,7 @@ use Rattle.aud_causes.specs.Cleared.{broke_by, cleared_after_break, cleared_at, 
 use Rattle.aud_causes.specs.Logs.{first_cause, later_cause, order_cause, record_cause, recoveries, take_cause, taken_again, takes_cause, unknown}
 use Rattle.aud_causes.specs.Names.{client_causes, orphan_from, reply_missing}
 use Rattle.aud_causes.specs.Recorded.{first_own, no_log_cause, opened_by, order_causes}
-use Rattle.aud_causes.specs.Turns.{begins_of, breaks_of, ends_of, missing_break, missing_breaks, missing_causes, not_tapped, unbroken_at, went_on}
+use Rattle.aud_causes.specs.Turns.{begins_of, breaks_of, ends_of, missing_break, missing_breaks, missing_by, missing_causes, not_tapped, recovery_after, unbroken_at}
 use Rattle.aud_causes.specs.Differences.{cause_and}
 use Rattle.aud_causes.specs.Twice.{causes_of_twice, is_as_often, is_so, recovered_twice, turn_not_stored, twice_at, twice_causes}
 use Rattle.aud_causes.proofs.Listed.Each.{OfSome, is_listed, of_and, of_both, of_choice, of_each, of_held, of_if, of_list, of_map, of_or, of_then}
@@ -56,8 +56,9 @@ not_tapped_listed turn [] = tt
 not_tapped_listed turn (None ∷ begins) = refl
 not_tapped_listed turn (Some begin ∷ begins) = not_tapped_listed (suc turn) begins
 
-went_on_listed : (came : List ℕ) (u : Unbroken) → OfSome in_chain (went_on came u)
-went_on_listed came u = of_map in_chain (MissingBreak u.turn u.begin u.back) (λ stay. refl) (slice_get came u.turn)
+missing_break_listed : (turn : ℕ) (begin back : RecordPlace) (stay : Option ℕ) → in_chain (MissingBreak turn begin back stay) ≡ true
+missing_break_listed turn begin back (Some stay) = refl
+missing_break_listed turn begin back None = refl
 
 missing_listed : (begins : List (Option RecordPlace)) (broken ended : List Bool) (came : List ℕ)
     → list_all in_chain (missing_causes begins broken ended came) ≡ true
@@ -67,7 +68,9 @@ missing_listed begins broken ended came =
     (of_each in_chain (λ turn. option_to_list (missing_break begins broken ended came turn))
     (λ turn.
     of_list in_chain (missing_break begins broken ended came turn)
-    (of_then in_chain (went_on came) (went_on_listed came) (unbroken_at begins broken ended turn)))
+    (of_map in_chain (missing_by (length begins) came)
+    (λ (u : Unbroken). missing_break_listed u.turn u.begin u.back (recovery_after (length begins) came u.turn))
+    (unbroken_at begins broken ended turn)))
     (numbers_from 0 (length begins)))
 
 cleared_by_listed : (broke place : RecordPlace) (r : Option NodeRec) → OfSome in_chain (cleared_by broke place r)

@@ -135,8 +135,8 @@ client c1, namespace /, turns 3, delivery not judged
     client  16 reply  17 got 1  18 lost  20 asks after 1  21 got 2  22 reply
 cause node-not-tapped (holds): No node's log has the begin of turn 2.
 do: tap each node, from its start.
-cause missing-break (holds, lines 6 13 20 22): The client recovered the session after turn 0, so
-        that turn broke; no log has its break.
+cause missing-break (holds, lines 6 13): The next turn begins, so turn 0 broke; no log has its
+        break.
 do: write a node's log unbuffered; look at the disk and at how logs are rotated.
 
 sessions: *"#,
