@@ -81,11 +81,16 @@ ends_of marks = map (is_ended_in marks) (numbers_from 0 (turn_count 0 marks))
 
 -- ---- the causes
 
--- no log has the begin of a turn: the first such, where these are the begins of the turns from this one on
-abbrev pub not_tapped : ℕ → List (Option RecordPlace) → Option Cause
-not_tapped turn [] = None
-not_tapped turn (None ∷ begins) = Some (NodeNotTapped turn)
-not_tapped turn (Some begin ∷ begins) = not_tapped (suc turn) begins
+-- no log has the begin of a turn, nor its `break`: a log that breaks it is that of its node
+abbrev pub is_untapped : Option RecordPlace → Option Bool → Bool
+is_untapped None (Some false) = true
+is_untapped _ _ = false
+
+-- the first such, where it is so whether each turn is broken, and these are the begins of the turns from this one on
+abbrev pub not_tapped : List Bool → ℕ → List (Option RecordPlace) → Option Cause
+not_tapped broken turn [] = None
+not_tapped broken turn (begin ∷ begins) =
+    if is_untapped begin (slice_get broken turn) then Some (NodeNotTapped turn) else not_tapped broken (suc turn) begins
 
 -- no record breaks this turn, and its log doesn't end it, though the next one begins: where this is its begin, whether
 -- it is broken, and ended, and the next one's begin
@@ -114,7 +119,7 @@ missing_break begins broken ended came turn = option_map (missing_by (length beg
 abbrev pub missing_breaks : List (Option RecordPlace) → List Bool → List Bool → List ℕ → List Cause
 missing_breaks begins broken ended came = flat_map (λ turn. option_to_list (missing_break begins broken ended came turn)) (numbers_from 0 (length begins))
 
--- the causes: the first turn that no log begins, and all that no log breaks, where these are the begins of the turns,
--- whether each is broken, and ended in its log, and the recoveries
+-- the causes: the first turn that no log begins or breaks, and all that lack their break, where these are the begins of
+-- the turns, whether each is broken, and ended in its log, and the recoveries
 abbrev pub missing_causes : List (Option RecordPlace) → List Bool → List Bool → List ℕ → List Cause
-missing_causes begins broken ended came = option_to_list (not_tapped 0 begins) ++ missing_breaks begins broken ended came
+missing_causes begins broken ended came = option_to_list (not_tapped broken 0 begins) ++ missing_breaks begins broken ended came

@@ -148,7 +148,7 @@ pub enum Cause {
     OpenNotRecorded {
         first: RecordPlace,
     },
-    /// No node's log has this turn.
+    /// No node's log has the begin of this turn, nor its `break`.
     NodeNotTapped {
         turn: usize,
     },

@@ -1,8 +1,9 @@
 //! What a break in the chain of a session's turns may come from.
 ghost use Rattle.std.specs.Prelude.{◌≡◌, ◌++◌, ◌<◌, IfOk, OnOk, Some, length, map};
+ghost use Rattle.std.specs.Option.{option_copied};
 ghost use Rattle.aud_causes.specs.Chain.{chain_causes};
 ghost use Rattle.aud_causes.specs.Private.Noting.{break_in, with_begin, with_break};
-ghost use Rattle.aud_causes.specs.Turns.{begins_of, begun_turn, breaks_of, broken_turn, count_with, ended_by, ended_turn, ends_of, missing_break, missing_breaks, missing_causes, not_tapped, recovery_after, turn_count, unbroken_at};
+ghost use Rattle.aud_causes.specs.Turns.{begins_of, begun_turn, breaks_of, broken_turn, count_with, ended_by, ended_turn, ends_of, missing_break, missing_breaks, missing_causes, is_untapped, not_tapped, recovery_after, turn_count, unbroken_at};
 
 use crate::cause::Cause;
 use crate::cleared::push_cleared;
@@ -64,7 +65,7 @@ fn missing_causes(
 {
     let broken = breaks_of(alloc, marks)?;
     let mut found = Vec::new(alloc);
-    push_cause(&mut found, not_tapped(begins))?;
+    push_cause(&mut found, not_tapped(begins, &broken))?;
     push_missing(&mut found, begins, &broken, ended, came)?;
     Ok(found)
 }
@@ -201,16 +202,26 @@ fn ended_turn(begin: TurnMark, next: TurnMark) -> Option<u16>
     begun_turn(begin.mark)
 }
 
-/// That no log has the begin of a turn, where these are the begins.
-fn not_tapped(begins: &[Option<RecordPlace>]) -> Option<Cause>
-    ensures { result ≡ not_tapped 0 begins.now }
+/// That no log has the begin of a turn, nor its `break`, where these are the begins, and whether each is broken.
+fn not_tapped(begins: &[Option<RecordPlace>], broken: &[bool]) -> Option<Cause>
+    ensures { result ≡ not_tapped broken.now 0 begins.now }
 {
     for (turn, begin) in begins.iter().enumerate() {
-        if begin.is_none() {
+        if is_untapped(*begin, broken.get(turn)) {
             return Some(Cause::NodeNotTapped { turn });
         }
     }
     None
+}
+
+/// Whether no log has the begin of a turn, nor its `break`.
+fn is_untapped(begin: Option<RecordPlace>, broken: Option<&bool>) -> bool
+    ensures { result ≡ is_untapped begin (option_copied broken.entry) }
+{
+    match (begin, broken) {
+        (None, Some(false)) => true,
+        _ => false,
+    }
 }
 
 /// Adds of each turn that the next one begins, though no record breaks it, and its log doesn't end it.

@@ -19,7 +19,7 @@ use Rattle.aud_cert.specs.declared.fault.Fault.TheVariants as fault
 use Rattle.aud_session_facts.specs.declared.marks.TurnMark.{TurnMark}
 use Rattle.aud_session_facts.specs.declared.place.RecordPlace.{RecordPlace}
 use Rattle.aud_causes.specs.declared.cause.Cause.{Cause}
-use Rattle.aud_causes.specs.declared.cause.Cause.TheVariants.{EntriesSkippedByNode, EntryTakenAgain, MissingBreak, NoClientTap, RecoveredTwice, ReplyMissing, TurnNotStored}
+use Rattle.aud_causes.specs.declared.cause.Cause.TheVariants.{EntriesSkippedByNode, EntryTakenAgain, MissingBreak, NoClientTap, NodeNotTapped, RecoveredTwice, ReplyMissing, TurnNotStored}
 use Rattle.aud_causes.specs.declared.turns.Unbroken.{Unbroken}
 use Rattle.aud_causes.specs.declared.twice.Twice.{Twice}
 use Rattle.aud_causes.specs.Chain.{chain_causes}
@@ -27,7 +27,7 @@ use Rattle.aud_causes.specs.Cleared.{broke_by, cleared_after_break, cleared_at, 
 use Rattle.aud_causes.specs.Logs.{first_cause, later_cause, order_cause, record_cause, recoveries, take_cause, taken_again, takes_cause, unknown}
 use Rattle.aud_causes.specs.Names.{client_causes, orphan_from, reply_missing}
 use Rattle.aud_causes.specs.Recorded.{first_own, no_log_cause, opened_by, order_causes}
-use Rattle.aud_causes.specs.Turns.{begins_of, breaks_of, ends_of, missing_break, missing_breaks, missing_by, missing_causes, not_tapped, recovery_after, unbroken_at}
+use Rattle.aud_causes.specs.Turns.{begins_of, breaks_of, ends_of, is_untapped, missing_break, missing_breaks, missing_by, missing_causes, not_tapped, recovery_after, unbroken_at}
 use Rattle.aud_causes.specs.Differences.{cause_and}
 use Rattle.aud_causes.specs.Twice.{causes_of_twice, is_as_often, is_so, recovered_twice, turn_not_stored, twice_at, twice_causes}
 use Rattle.aud_causes.proofs.Listed.Each.{OfSome, is_listed, of_and, of_both, of_choice, of_each, of_held, of_if, of_list, of_map, of_or, of_then}
@@ -51,10 +51,11 @@ no_log_listed c pid = both_true (opened_listed (first_own c pid)) refl
 abbrev in_chain : Cause → Bool
 in_chain = is_listed fault.Chain
 
-not_tapped_listed : (turn : ℕ) (begins : List (Option RecordPlace)) → OfSome in_chain (not_tapped turn begins)
-not_tapped_listed turn [] = tt
-not_tapped_listed turn (None ∷ begins) = refl
-not_tapped_listed turn (Some begin ∷ begins) = not_tapped_listed (suc turn) begins
+not_tapped_listed : (broken : List Bool) (turn : ℕ) (begins : List (Option RecordPlace)) → OfSome in_chain (not_tapped broken turn begins)
+not_tapped_listed broken turn [] = tt
+not_tapped_listed broken turn (begin ∷ begins) =
+    of_choice in_chain (is_untapped begin (slice_get broken turn)) (Some (NodeNotTapped turn)) (not_tapped broken (suc turn) begins)
+    refl (not_tapped_listed broken (suc turn) begins)
 
 missing_break_listed : (turn : ℕ) (begin back : RecordPlace) (stay : Option ℕ) → in_chain (MissingBreak turn begin back stay) ≡ true
 missing_break_listed turn begin back (Some stay) = refl
@@ -63,8 +64,8 @@ missing_break_listed turn begin back None = refl
 missing_listed : (begins : List (Option RecordPlace)) (broken ended : List Bool) (came : List ℕ)
     → list_all in_chain (missing_causes begins broken ended came) ≡ true
 missing_listed begins broken ended came =
-    of_both in_chain (option_to_list (not_tapped 0 begins)) (missing_breaks begins broken ended came)
-    (of_list in_chain (not_tapped 0 begins) (not_tapped_listed 0 begins))
+    of_both in_chain (option_to_list (not_tapped broken 0 begins)) (missing_breaks begins broken ended came)
+    (of_list in_chain (not_tapped broken 0 begins) (not_tapped_listed broken 0 begins))
     (of_each in_chain (λ turn. option_to_list (missing_break begins broken ended came turn))
     (λ turn.
     of_list in_chain (missing_break begins broken ended came turn)
