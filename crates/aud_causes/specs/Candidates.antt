@@ -28,14 +28,15 @@ candidates fault.Orphan =
 candidates (fault.Content off) = codes "another-encoder" ∷ codes "attachments-reordered" ∷ codes "another-event" ∷ codes "altered" ∷ []
 candidates (fault.Extra off) =
     codes "node-behind-break" ∷ codes "rooms-at-break" ∷ codes "offset-of-another-session" ∷ codes "log-ended-early" ∷ codes "late-leave"
-    ∷ codes "before-birth" ∷ codes "extra-live" ∷ codes "join-missing" ∷ codes "leave-missing" ∷ []
+    ∷ codes "before-birth" ∷ codes "extra-live" ∷ codes "join-missing" ∷ codes "leave-missing"
+    ∷ codes "recovery-not-recorded" ∷ []
 candidates (fault.Doubled off) =
     codes "node-behind-break" ∷ codes "sent-again-after-replay" ∷ codes "stale-offset"
-    ∷ codes "body-came-twice" ∷ codes "doubled-live" ∷ []
-candidates (fault.Swapped off) = codes "node-behind-break" ∷ codes "swapped-live" ∷ []
+    ∷ codes "body-came-twice" ∷ codes "doubled-live" ∷ codes "recovery-not-recorded" ∷ []
+candidates (fault.Swapped off) = codes "node-behind-break" ∷ codes "swapped-live" ∷ codes "recovery-not-recorded" ∷ []
 candidates (fault.Lost off) =
     codes "rooms-at-break" ∷ codes "skipped-in-window" ∷ codes "offset-of-another-session" ∷ codes "frame-not-recorded"
-    ∷ codes "lost-live" ∷ codes "leave-missing" ∷ []
+    ∷ codes "lost-live" ∷ codes "leave-missing" ∷ codes "recovery-not-recorded" ∷ []
 candidates (fault.Window conn) = codes "no-offset" ∷ codes "unknown-offset" ∷ codes "stale-offset" ∷ codes "offset-of-another-session" ∷ []
 candidates (fault.Tail count) = []
 

@@ -21,6 +21,7 @@ use Rattle.aud_causes.specs.Delivery.{cause_if, held, doubled_live, swapped_live
 use Rattle.aud_causes.specs.Behind.{node_behind}
 use Rattle.aud_causes.specs.Extra.{log_ended_early, before_birth, late_leave, extra_live, change_missing, rooms_named}
 use Rattle.aud_causes.specs.Leavable.{leave_missing_in}
+use Rattle.aud_causes.specs.Unrecorded.{recovery_not_recorded}
 use Rattle.aud_causes.specs.AtBreak.{first_taken, rooms_at_break}
 use Rattle.aud_causes.specs.Bodies.{body_twice}
 
@@ -132,13 +133,17 @@ extra_causes c pid turns at_break due why f =
 abbrev pub extra_in : Case → Facts → ℕ → List Cause
 extra_in s f p = extra_causes s.c s.who.pid s.seen (rooms_at_break s.c s.who s.turns s.stays f) s.due (why_not_due s.c s.who s.turns p) f
 
--- of the facts of a difference of this kind
+-- those that a difference of this kind alone can have, of its facts
 abbrev pub causes_by : Case → Difference → Facts → List Cause
 causes_by s (Extra frame position) f = extra_in s f position
 causes_by s (Doubled first again position) f = doubled_in s f
 causes_by s (Swapped frame due later) f = swapped_causes s.c s.seen f
 causes_by s (Lost frame due) f = lost_in s f
 
+-- those, and after them what each difference can have: a recovery was not recorded
+abbrev pub all_causes : Case → Difference → Facts → List Cause
+all_causes s difference f = causes_by s difference f ++ option_to_list (recovery_not_recorded s.seen s.stays f)
+
 -- of a difference
 abbrev pub difference_causes : Case → Difference → List Cause
-difference_causes s difference = causes_by s difference (facts_of s.c.stream s.seen s.stays difference)
+difference_causes s difference = all_causes s difference (facts_of s.c.stream s.seen s.stays difference)

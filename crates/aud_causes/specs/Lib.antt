@@ -18,11 +18,12 @@ pub mod Extra
 pub mod AtBreak
 pub mod Bodies
 pub mod Leavable
+pub mod Logs
+pub mod Unrecorded
 pub mod Differences
 pub mod SameJson
 pub mod Contents
 pub mod Windows
-pub mod Logs
 pub mod Names
 pub mod Orphans
 pub mod Turns

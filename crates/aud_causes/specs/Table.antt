@@ -12,7 +12,7 @@ use Rattle.aud_causes.specs.declared.record_at.Records.TheVariants.{Nothing, One
 use Rattle.aud_causes.specs.declared.table.Row.{Row}
 use Rattle.aud_causes.specs.NoPacket.{advice, no_packet_figures, no_packet_words}
 use Rattle.aud_causes.specs.declared.cause.Cause.{Cause}
-use Rattle.aud_causes.specs.declared.cause.Cause.TheVariants.{NodeBehindBreak, SentAgainAfterReplay, StaleOffset, BodyCameTwice, OffsetOfAnotherSession, FrameNotRecorded, UnknownOffset, NoOffset, RoomsAtBreak, SkippedInWindow, LostLive, DoubledLive, SwappedLive, AnotherEncoder, AttachmentsReordered, AnotherEvent, Altered, LogEndedEarly, LateLeave, BeforeBirth, ExtraLive, JoinMissing, LeaveMissing, MissingBreak, ClearedAfterBreak, TurnNotStored, RecoveredTwice, OpenNotRecorded, NodeNotTapped, NoStart, RestartedInOldLog, EntriesSkippedByNode, EntryTakenAgain, NotInStream, TwoTaps, NoClientTap, ReplyMissing, SidDiffers, NamespaceDiffers, NotAPacket, TapBeganLate, CutBeforeReply, ReplyWithoutPid, OutAfterAnswer, SecondConnect, AfterDisconnect, SessionOver, NodeEndedInTurn, NeverBroken, AskedTooEarly}
+use Rattle.aud_causes.specs.declared.cause.Cause.TheVariants.{NodeBehindBreak, SentAgainAfterReplay, StaleOffset, BodyCameTwice, OffsetOfAnotherSession, FrameNotRecorded, UnknownOffset, NoOffset, RoomsAtBreak, SkippedInWindow, LostLive, DoubledLive, SwappedLive, AnotherEncoder, AttachmentsReordered, AnotherEvent, Altered, LogEndedEarly, LateLeave, BeforeBirth, ExtraLive, JoinMissing, LeaveMissing, RecoveryNotRecorded, MissingBreak, ClearedAfterBreak, TurnNotStored, RecoveredTwice, OpenNotRecorded, NodeNotTapped, NoStart, RestartedInOldLog, EntriesSkippedByNode, EntryTakenAgain, NotInStream, TwoTaps, NoClientTap, ReplyMissing, SidDiffers, NamespaceDiffers, NotAPacket, TapBeganLate, CutBeforeReply, ReplyWithoutPid, OutAfterAnswer, SecondConnect, AfterDisconnect, SessionOver, NodeEndedInTurn, NeverBroken, AskedTooEarly}
 
 -- what is said of a cause: its name, for scripts; the records that show it; what happened, in words, where in the place of
 -- each `#` stands the next of the figures; and what to do
@@ -122,6 +122,9 @@ row_of (JoinMissing frame) = row (codes "join-missing") (Got frame ∷ [])
 row_of (LeaveMissing frame) = row (codes "leave-missing") (Got frame ∷ [])
     (codes "What came would fit if the session had left a room before: a `leave` may be missing.") []
     (codes "write a `leave` at once, unbuffered; look at whether the session was in that room.")
+row_of (RecoveryNotRecorded stay recoveries turns) = row (codes "recovery-not-recorded") (Ask stay ∷ Reply stay ∷ [])
+    (codes "The client was taken back more often (#) than the logs have turns after the first (#): a turn is missing.") (Number recoveries ∷ Number turns ∷ [])
+    (codes "tap each node, from its start, and write its log unbuffered.")
 row_of (MissingBreak turn begin back (Some stay)) = row (codes "missing-break") (Node begin ∷ Node back ∷ Ask stay ∷ Reply stay ∷ [])
     (codes "The client recovered the session after turn #, so that turn broke; no log has its break.") (Number turn ∷ [])
     (codes "write a node's log unbuffered; look at the disk and at how logs are rotated.")

@@ -48,7 +48,7 @@ static CONTENT: [&str; 4] = [
     "altered",
 ];
 
-static EXTRA: [&str; 9] = [
+static EXTRA: [&str; 10] = [
     "node-behind-break",
     "rooms-at-break",
     "offset-of-another-session",
@@ -58,25 +58,28 @@ static EXTRA: [&str; 9] = [
     "extra-live",
     "join-missing",
     "leave-missing",
+    "recovery-not-recorded",
 ];
 
-static DOUBLED: [&str; 5] = [
+static DOUBLED: [&str; 6] = [
     "node-behind-break",
     "sent-again-after-replay",
     "stale-offset",
     "body-came-twice",
     "doubled-live",
+    "recovery-not-recorded",
 ];
 
-static SWAPPED: [&str; 2] = ["node-behind-break", "swapped-live"];
+static SWAPPED: [&str; 3] = ["node-behind-break", "swapped-live", "recovery-not-recorded"];
 
-static LOST: [&str; 6] = [
+static LOST: [&str; 7] = [
     "rooms-at-break",
     "skipped-in-window",
     "offset-of-another-session",
     "frame-not-recorded",
     "lost-live",
     "leave-missing",
+    "recovery-not-recorded",
 ];
 
 static WINDOW: [&str; 4] = [

@@ -120,6 +120,13 @@ pub enum Cause {
     LeaveMissing {
         frame: usize,
     },
+    /// The client was taken back more often than the logs have turns after the first. The stay is that of the first
+    /// recovery past so many as there are turns.
+    RecoveryNotRecorded {
+        stay: usize,
+        recoveries: usize,
+        turns: usize,
+    },
     /// The session went on after a turn of which no node has the `break`, by this recovery, where it is known.
     MissingBreak {
         turn: usize,

@@ -3,7 +3,7 @@ ghost use Rattle.std.specs.Prelude.{◌≡◌, ℕ, IfOk, List, map, option_map}
 ghost use Rattle.aud_check.specs.Difference.{has_position};
 ghost use Rattle.aud_maker.specs.Made.{IsMade};
 ghost use Rattle.aud_session_facts.specs.NotDue.{reason_of};
-ghost use Rattle.aud_causes.specs.Differences.{case_of, difference_causes, doubled_causes, doubled_in, extra_causes, extra_in, frame_not_recorded, lost_causes, lost_in, offset_of_another, other_session_after, other_session_before, swapped_causes};
+ghost use Rattle.aud_causes.specs.Differences.{case_of, causes_by, difference_causes, doubled_causes, doubled_in, extra_causes, extra_in, frame_not_recorded, lost_causes, lost_in, offset_of_another, other_session_after, other_session_before, swapped_causes};
 
 use crate::at_break::{first_taken, rooms_at_break};
 use crate::behind::node_behind;
@@ -14,10 +14,11 @@ use crate::extra::{
 };
 use crate::facts::{Facts, facts_of};
 use crate::leavable::leave_missing_in;
-use crate::list::held;
+use crate::list::{held, push_cause};
 use crate::live::{
     doubled_live, lost_live, sent_again, skipped_in_window, stale_offset, swapped_live,
 };
+use crate::unrecorded::recovery_not_recorded;
 use aud_cert::Turn;
 use aud_check::Difference;
 use aud_client::{Recording, Stay};
@@ -44,10 +45,38 @@ pub(crate) fn difference_causes(
     let turns = account.cert.turns.as_slice();
     let stays = account.stays.as_slice();
     let facts = facts_of(logs.stream(), turns, stays, difference);
+    let unrecorded = recovery_not_recorded(alloc, turns, stays, facts)?;
+    let mut found = causes_by(alloc, recording, account, numbers, difference, facts)?;
+    push_cause(&mut found, unrecorded)?;
+    Ok(found)
+}
+
+/// Those that a difference of its kind alone can have, where these are its facts.
+fn causes_by(
+    alloc: Global,
+    recording: &Recording<'_>,
+    account: &Account<'_, '_>,
+    numbers: &[usize],
+    difference: Difference,
+    facts: Facts,
+) -> Result<Vec<Cause>, AllocError>
+    requires { IsMade recording.now account.now.cert.pid account.now.cert }
+    ensures { IfOk result (λ found.
+        (made : IsMade recording.now account.now.cert.pid account.now.cert)
+        → found.items
+        ≡ causes_by (case_of recording.now account.now numbers.now made) difference facts) }
+{
     match difference {
         Difference::Extra { position, .. } => extra_of(alloc, recording, account, facts, position),
         Difference::Doubled { .. } => doubled_of(alloc, recording, account, numbers, facts),
-        Difference::Swapped { .. } => swapped_causes(alloc, logs, turns, facts),
+        Difference::Swapped { .. } => {
+            swapped_causes(
+                alloc,
+                recording.logs(),
+                account.cert.turns.as_slice(),
+                facts,
+            )
+        }
         Difference::Lost { .. } => lost_of(alloc, recording, account, facts),
     }
 }

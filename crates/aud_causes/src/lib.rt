@@ -55,6 +55,7 @@ mod taken_back;
 mod texts;
 mod turns;
 mod twice;
+mod unrecorded;
 mod why;
 mod window;
 

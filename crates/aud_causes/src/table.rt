@@ -194,6 +194,21 @@ pub(crate) fn row_of(cause: Cause) -> Row
             figures: [None; 3],
             todo: "write a `leave` at once, unbuffered; look at whether the session was in that room.",
         },
+        Cause::RecoveryNotRecorded {
+            stay,
+            recoveries,
+            turns,
+        } => Row {
+            id: "recovery-not-recorded",
+            records: Two(Ask(stay), Reply(stay)),
+            why: "The client was taken back more often (#) than the logs have turns after the first (#): a turn is missing.",
+            figures: [
+                Some(Number(recoveries as u64)),
+                Some(Number(turns as u64)),
+                None,
+            ],
+            todo: "tap each node, from its start, and write its log unbuffered.",
+        },
         Cause::MissingBreak {
             turn,
             begin,

@@ -14,14 +14,14 @@ cause_names =
     ∷ codes "unknown-offset" ∷ codes "no-offset" ∷ codes "lost-live" ∷ codes "doubled-live"
     ∷ codes "swapped-live" ∷ codes "another-encoder" ∷ codes "attachments-reordered" ∷ codes "another-event"
     ∷ codes "altered" ∷ codes "log-ended-early" ∷ codes "late-leave" ∷ codes "before-birth"
-    ∷ codes "extra-live" ∷ codes "join-missing" ∷ codes "leave-missing" ∷ codes "missing-break"
-    ∷ codes "cleared-after-break" ∷ codes "turn-not-stored" ∷ codes "recovered-twice" ∷ codes "node-not-tapped"
-    ∷ codes "open-not-recorded" ∷ codes "no-start" ∷ codes "restarted-in-old-log" ∷ codes "entries-skipped-by-node"
-    ∷ codes "entry-taken-again" ∷ codes "not-in-stream" ∷ codes "two-taps" ∷ codes "no-client-tap"
-    ∷ codes "reply-missing" ∷ codes "sid-differs" ∷ codes "namespace-differs" ∷ codes "not-a-packet"
-    ∷ codes "cut-before-reply" ∷ codes "reply-without-pid" ∷ codes "tap-began-late" ∷ codes "out-after-answer"
-    ∷ codes "second-connect" ∷ codes "after-disconnect" ∷ codes "session-over" ∷ codes "asked-too-early"
-    ∷ codes "node-ended-in-turn" ∷ codes "never-broken" ∷ []
+    ∷ codes "extra-live" ∷ codes "join-missing" ∷ codes "leave-missing" ∷ codes "recovery-not-recorded"
+    ∷ codes "missing-break" ∷ codes "cleared-after-break" ∷ codes "turn-not-stored" ∷ codes "recovered-twice"
+    ∷ codes "node-not-tapped" ∷ codes "open-not-recorded" ∷ codes "no-start" ∷ codes "restarted-in-old-log"
+    ∷ codes "entries-skipped-by-node" ∷ codes "entry-taken-again" ∷ codes "not-in-stream" ∷ codes "two-taps"
+    ∷ codes "no-client-tap" ∷ codes "reply-missing" ∷ codes "sid-differs" ∷ codes "namespace-differs"
+    ∷ codes "not-a-packet" ∷ codes "cut-before-reply" ∷ codes "reply-without-pid" ∷ codes "tap-began-late"
+    ∷ codes "out-after-answer" ∷ codes "second-connect" ∷ codes "after-disconnect" ∷ codes "session-over"
+    ∷ codes "asked-too-early" ∷ codes "node-ended-in-turn" ∷ codes "never-broken" ∷ []
 
 -- the text that is borrowed
 abbrev pub name_of : Bor Text → Text

@@ -13,7 +13,7 @@ pub struct CausesTold {
     pub others: usize,
 }
 
-static NAMES: [&str; 50] = [
+static NAMES: [&str; 51] = [
     "node-behind-break",
     "sent-again-after-replay",
     "rooms-at-break",
@@ -37,6 +37,7 @@ static NAMES: [&str; 50] = [
     "extra-live",
     "join-missing",
     "leave-missing",
+    "recovery-not-recorded",
     "missing-break",
     "cleared-after-break",
     "turn-not-stored",

@@ -1,5 +1,5 @@
 -- The causes of a difference between what was received and what was due have names of the fault's list.
-use Rattle.std.proofs.Common.{◌≡◌, ◌-◌, ◌&&◌, ℕ, Bool, true, List, [], ◌∷◌, Option, Some, None, map, nat_eq, nat_le, nat_lt, not, refl, slice_get, take}
+use Rattle.std.proofs.Common.{◌≡◌, ◌-◌, ◌&&◌, ◌++◌, ℕ, Bool, true, List, [], ◌∷◌, length, Option, Some, None, map, option_to_list, nat_eq, nat_le, nat_lt, not, refl, slice_get, take}
 use Rattle.std.specs.List.{list_all}
 use Rattle.std.specs.Option.{option_and_then, option_map, option_or}
 use Rattle.aud_node.specs.Cluster.{Cluster}
@@ -29,7 +29,9 @@ use Rattle.aud_causes.specs.Differences.{Case, difference_causes, doubled_in, ex
 use Rattle.aud_causes.specs.Extra.{before_birth, change_missing, ended_in, extra_live, first_left, goes_on, is_unaddressed, last_turn, late_leave, log_ended_early, reached_at, rooms_named}
 use Rattle.aud_causes.specs.Facts.{facts_of}
 use Rattle.aud_causes.specs.Leavable.{are_leavable, leave_missing_in, own_room}
-use Rattle.aud_causes.proofs.Listed.Each.{OfSome, is_listed, of_choice, of_held, of_if, of_map, of_test, of_then}
+use Rattle.aud_causes.specs.Logs.{recoveries}
+use Rattle.aud_causes.specs.Unrecorded.{past_turns, recovery_not_recorded}
+use Rattle.aud_causes.proofs.Listed.Each.{OfSome, is_listed, of_both, of_choice, of_held, of_if, of_list, of_map, of_test, of_then}
 
 -- ---- what several lists have
 
@@ -50,6 +52,16 @@ module _ (p : Cause → Bool) where
   rooms_listed has c who turns stays f =
       of_test p (λ (replay : Replay). is_replayed replay f.parted.position && is_by_rooms_at_break c who turns stays f.later replay)
       (λ (replay : Replay). cause.RoomsAtBreak f.later replay.after replay.low) (λ replay. has f.later replay.after replay.low) f.replay
+
+  -- what each difference can have, after what its kind alone can have
+  and_unrecorded : ((stay came turns : ℕ) → p (cause.RecoveryNotRecorded stay came turns) ≡ true) → (causes : List Cause) → list_all p causes ≡ true
+      → (turns : List TurnSeen) (stays : List StaySeen) (f : Facts) → list_all p (causes ++ option_to_list (recovery_not_recorded turns stays f)) ≡ true
+  and_unrecorded has causes are turns stays f =
+      let came = recoveries stays in
+      let after = length turns - 1 in
+      let past = of_map p (λ stay. cause.RecoveryNotRecorded stay (length came) after) (λ stay. has stay (length came) after) (slice_get came after) in
+      let unrecorded = of_choice p f.recovered (past_turns after came) None past tt in
+      of_both p causes (option_to_list (recovery_not_recorded turns stays f)) are (of_list p (recovery_not_recorded turns stays f) unrecorded)
 
 -- ---- EXTRA
 
@@ -196,8 +208,19 @@ module _ (off : Text) where
 -- ---- of a difference, in the list of its fault
 
 pub difference_listed : (s : Case) (difference : Difference) → list_all (is_listed (fault_of s.c.stream difference)) (difference_causes s difference) ≡ true
-difference_listed s (Extra frame position) = extra_listed (offset_at s.c.stream position) s (facts_of s.c.stream s.seen s.stays (Extra frame position)) position
-difference_listed s (Doubled first again position) = doubled_listed (offset_at s.c.stream position) s (facts_of s.c.stream s.seen s.stays (Doubled first again position))
+difference_listed s (Extra frame position) =
+    let off = offset_at s.c.stream position in
+    let f = facts_of s.c.stream s.seen s.stays (Extra frame position) in
+    and_unrecorded (in_extra off) (λ stay came turns. refl) (extra_in s f position) (extra_listed off s f position) s.seen s.stays f
+difference_listed s (Doubled first again position) =
+    let off = offset_at s.c.stream position in
+    let f = facts_of s.c.stream s.seen s.stays (Doubled first again position) in
+    and_unrecorded (in_doubled off) (λ stay came turns. refl) (doubled_in s f) (doubled_listed off s f) s.seen s.stays f
 difference_listed s (Swapped frame due later) =
-    swapped_listed (offset_at s.c.stream due) s.c s.seen (facts_of s.c.stream s.seen s.stays (Swapped frame due later))
-difference_listed s (Lost frame due) = lost_listed (offset_at s.c.stream due) s (facts_of s.c.stream s.seen s.stays (Lost frame due))
+    let off = offset_at s.c.stream due in
+    let f = facts_of s.c.stream s.seen s.stays (Swapped frame due later) in
+    and_unrecorded (in_swapped off) (λ stay came turns. refl) (swapped_causes s.c s.seen f) (swapped_listed off s.c s.seen f) s.seen s.stays f
+difference_listed s (Lost frame due) =
+    let off = offset_at s.c.stream due in
+    let f = facts_of s.c.stream s.seen s.stays (Lost frame due) in
+    and_unrecorded (in_lost off) (λ stay came turns. refl) (lost_in s f) (lost_listed off s f) s.seen s.stays f

@@ -39,19 +39,19 @@ static FAULTS: [&str; 13] = [
     r#"explain --json --pid p1
 1 1 c1@1 lose j1:r e:a:r t1
 -> Ok(SomeNo)
-*"causes":[{"id":"extra-live",*"of":"fault","of_line":null,"state":"fits","sure":false,*},{"id":"join-missing",*"of":"fault","of_line":null,"state":"fits","sure":false,*}],"class":*"fault":"EXTRA",*"refused":[],"refuted":["node-behind-break","rooms-at-break","offset-of-another-session","log-ended-early","late-leave","before-birth","leave-missing"],"tail":*"#,
+*"causes":[{"id":"extra-live",*"of":"fault","of_line":null,"state":"fits","sure":false,*},{"id":"join-missing",*"of":"fault","of_line":null,"state":"fits","sure":false,*}],"class":*"fault":"EXTRA",*"refused":[],"refuted":["node-behind-break","rooms-at-break","offset-of-another-session","log-ended-early","late-leave","before-birth","leave-missing","recovery-not-recorded"],"tail":*"#,
     r#"explain --json --pid p1
 1 1 c1@1 e:a e:b double1 t1 t1
 -> Ok(SomeNo)
-*"causes":[{"id":"doubled-live",*"of":"fault","of_line":null,"state":"certain","sure":true,*}],"class":*"fault":"DOUBLED",*"refused":[],"refuted":["node-behind-break","sent-again-after-replay","stale-offset","body-came-twice"],"tail":*"#,
+*"causes":[{"id":"doubled-live",*"of":"fault","of_line":null,"state":"certain","sure":true,*}],"class":*"fault":"DOUBLED",*"refused":[],"refuted":["node-behind-break","sent-again-after-replay","stale-offset","body-came-twice","recovery-not-recorded"],"tail":*"#,
     r#"explain --json --pid p1
 1 1 c1@1 e:a e:b hold1 t1 t1
 -> Ok(SomeNo)
-*"causes":[{"id":"swapped-live",*"of":"fault","of_line":null,"state":"certain","sure":true,*}],"class":*"fault":"SWAPPED",*"refused":[],"refuted":["node-behind-break"],"tail":*"#,
+*"causes":[{"id":"swapped-live",*"of":"fault","of_line":null,"state":"certain","sure":true,*}],"class":*"fault":"SWAPPED",*"refused":[],"refuted":["node-behind-break","recovery-not-recorded"],"tail":*"#,
     r#"explain --json --pid p1
 1 1 c1@1 j1:r e:a:r e:b drop1 t1 t1
 -> Ok(SomeNo)
-*"causes":[{"id":"lost-live",*"of":"fault","of_line":null,"state":"fits","sure":false,*},{"id":"leave-missing",*"of":"fault","of_line":null,"state":"fits","sure":false,*}],"class":*"fault":"LOST",*"refused":[],"refuted":["rooms-at-break","skipped-in-window","offset-of-another-session","frame-not-recorded"],"tail":*"#,
+*"causes":[{"id":"lost-live",*"of":"fault","of_line":null,"state":"fits","sure":false,*},{"id":"leave-missing",*"of":"fault","of_line":null,"state":"fits","sure":false,*}],"class":*"fault":"LOST",*"refused":[],"refuted":["rooms-at-break","skipped-in-window","offset-of-another-session","frame-not-recorded","recovery-not-recorded"],"tail":*"#,
     r#"explain --json --pid p1
 2 1 c1@1 e:a t1 x1 e:b t2 t2 o1@2
 -> Ok(SomeNo)
