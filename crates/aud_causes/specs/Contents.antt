@@ -1,5 +1,5 @@
 -- What an event that isn't its entry may come from.
-use Rattle.std.specs.Prelude.{ℕ, Bool, true, false, not, ◌&&◌, List, [], ◌∷◌, length, nat_eq, count_by, Option, Some, None, Ok, Err, slice_get}
+use Rattle.std.specs.Prelude.{ℕ, Bool, true, false, not, ◌&&◌, ◌||◌, List, [], ◌∷◌, length, nat_eq, count_by, Option, Some, None, Ok, Err, slice_get}
 use Rattle.std.specs.List.{list_all}
 use Rattle.std.specs.Option.{option_map}
 use Rattle.std.specs.Str.{bytes_eq}
@@ -75,9 +75,9 @@ same_name _ _ = false
 abbrev pub is_other_call : List Data → List Data → Bool
 is_other_call one other = not (nat_eq (length one) (length other) && same_name (slice_get one 0) (slice_get other 0))
 
--- so it is of what they say
+-- so it is of what they say, or they are of two namespaces
 abbrev pub is_other_event : SaidSeen → SaidSeen → Bool
-is_other_event one other = is_other_call (elements one.value) (elements other.value)
+is_other_event one other = not (bytes_eq one.nsp other.nsp) || is_other_call (elements one.value) (elements other.value)
 
 -- ---- its attachments
 
@@ -113,7 +113,8 @@ is_by_another_encoder frame event = says_the_entry frame event && are_same frame
 abbrev pub is_reordered : FrameSeen → Event → Bool
 is_reordered frame event = says_the_entry frame event && not (are_same frame.bin event.bin) && are_same_in_any_order frame.bin event.bin
 
--- it has another name than its entry, or another number of arguments: an event of the application's own
+-- it has another name than its entry, or another number of arguments, or is of another namespace: an event of the
+-- application's own
 abbrev pub is_another_event : FrameSeen → Event → Bool
 is_another_event frame event = of_both is_other_event (said_in frame.text) (said_in event.text)
 

@@ -99,7 +99,7 @@ row_of (AttachmentsReordered frame) = row (codes "attachments-reordered") (Got f
     (codes "The event has its entry's attachments, in another order.") []
     (codes "look at what stands between the node and the client: it has to keep the order of messages.")
 row_of (AnotherEvent frame) = row (codes "another-event") (Got frame ∷ [])
-    (codes "The event has another name than its entry, or another number of arguments.") []
+    (codes "The event has another name, namespace or number of arguments than its entry.") []
     (codes "let no event but those of the stream end in a text that is an offset.")
 row_of (Altered frame part) = row (codes "altered") (Got frame ∷ [])
     (part_words part) (part_figures part)

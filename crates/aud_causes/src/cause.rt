@@ -84,7 +84,7 @@ pub enum Cause {
     AttachmentsReordered {
         frame: usize,
     },
-    /// An event has another name than its entry, or another number of arguments.
+    /// An event has another name than its entry, or another number of arguments, or is of another namespace.
     AnotherEvent {
         frame: usize,
     },

@@ -183,13 +183,15 @@ fn says_same(one: &Option<Said<'_>>, other: &Option<Said<'_>>) -> bool
     }
 }
 
-/// Whether both are read, and have another name, or another number of arguments.
+/// Whether both are read, and are of two namespaces, or have another name, or another number of arguments.
 fn is_other_event(one: &Option<Said<'_>>, other: &Option<Said<'_>>) -> bool
     ensures { result ≡ of_both is_other_event (option_map said_view one.now)
         (option_map said_view other.now) }
 {
     match (one, other) {
-        (Some(one), Some(other)) => is_other_call(elements(&one.value), elements(&other.value)),
+        (Some(one), Some(other)) => {
+            one.nsp != other.nsp || is_other_call(elements(&one.value), elements(&other.value))
+        }
         _ => false,
     }
 }

@@ -141,7 +141,7 @@ pub(crate) fn row_of(cause: Cause) -> Row
         Cause::AnotherEvent { frame } => Row {
             id: "another-event",
             records: One(Got(frame)),
-            why: "The event has another name than its entry, or another number of arguments.",
+            why: "The event has another name, namespace or number of arguments than its entry.",
             figures: [None; 3],
             todo: "let no event but those of the stream end in a text that is an offset.",
         },

@@ -91,8 +91,8 @@ sessions: *"#,
 c1 {"k":"in","t":"42[\"seen\",\"o2\"]"}
 -> Ok(SomeNo)
 no P CONTENT o2 [delivery]
-*cause another-event (fits, line 13): The event has another name than its entry, or another number of
-        arguments.
+*cause another-event (fits, line 13): The event has another name, namespace or number of arguments
+        than its entry.
 do: let no event but those of the stream end in a text that is an offset.
 cause altered (fits, line 13): The event's text parts from its entry's at byte 4. It has
         2["seen","o2"], and the entry has 2["new",{"a/b":1,"name":"ca.. there.

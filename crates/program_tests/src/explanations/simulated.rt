@@ -166,8 +166,8 @@ client c1, namespace /, connection 1, turns 1, got 1, due 1
       10 c1   conn 1 got 1 1-0  <- not as the entry has it
     turn 0  n1  5 open, cursor 0 == take 1 == 9 log ends, cursor 1
     client  7 reply  10 got 1
-cause another-event (fits, line 10): The event has another name than its entry, or another number of
-        arguments.
+cause another-event (fits, line 10): The event has another name, namespace or number of arguments
+        than its entry.
 do: let no event but those of the stream end in a text that is an offset.
 cause altered (fits, line 10): The event's text parts from its entry's at byte 6. It has
         2["hix","1-0"], and the entry has 2["hi","1-0"] there.
