@@ -112,7 +112,7 @@ pub enum Cause {
     ExtraLive {
         frame: usize,
     },
-    /// The entry would be due if the session had joined one of its rooms before.
+    /// What came would fit if the session had joined a room of the entry before, or one that it excepts.
     JoinMissing {
         frame: usize,
     },
