@@ -36,7 +36,7 @@ pub(crate) fn body_twice(
 }
 
 /// The records of the stays of the client's tap at this place.
-fn places_at<'r>(recording: &'r Recording<'_>, client: usize) -> &'r [StayPlaces]
+pub(crate) fn places_at<'r>(recording: &'r Recording<'_>, client: usize) -> &'r [StayPlaces]
     ensures { result.now ≡ places_at recording.now client }
 {
     match recording.client(client) {

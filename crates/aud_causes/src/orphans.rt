@@ -1,13 +1,14 @@
 //! What events may come from of which nobody knows the session.
-ghost use Rattle.std.specs.Prelude.{◌≡◌, ◌++◌, IfOk, None, OnOk, codes, nat_eq, slice_get};
+ghost use Rattle.std.specs.Prelude.{◌≡◌, ◌++◌, IfOk, None, OnOk, codes, false, nat_eq, slice_get};
 ghost use Rattle.std.specs.List.{starts_with};
 ghost use Rattle.std.specs.Option.{option_copied};
 ghost use Rattle.aud_session_facts.specs.Recoveries.{stays_at};
-ghost use Rattle.aud_causes.specs.Orphans.{answered_causes, causes_of_before, is_beside, is_disconnect, last_beside, last_of_stay, orphan_causes, out_after_answer, replied_causes, stay_before, unreplied_causes, without_reply};
+ghost use Rattle.aud_causes.specs.Orphans.{answered_causes, began_late, begin_after, begins, causes_of_before, connects, connects_before, connects_by, end_of, is_beside, is_disconnect, is_end, is_of_namespace, last_beside, last_of_stay, orphan_causes, out_after_answer, records_at, replied_causes, says_connect, stay_before, unreplied_causes, without_reply};
 
+use crate::bodies::places_at;
 use crate::cause::Cause;
-use crate::list::{front_of, held, push_cause};
-use aud_client::{Recording, Stay};
+use crate::list::{front_of, held, push_cause, rest_after};
+use aud_client::{Recording, Stay, StayPlaces};
 use aud_tap::{ClientRec, Text};
 use std::alloc::{AllocError, Global};
 
@@ -78,21 +79,144 @@ fn unreplied_causes(
     ensures { IfOk result (λ found. found.items
         ≡ unreplied_causes recording.now client number stay.now before) }
 {
-    let mut found = held(alloc, &[without_reply(number, stay, before)])?;
+    let late = began_late(recording, client, number, stay);
+    let mut found = held(alloc, &[without_reply(number, stay, late)])?;
     push_before(&mut found, recording, client, number, before)?;
     Ok(found)
 }
 
-/// Where the client asked for a session; or where it did not, and there is no such stay.
-fn without_reply(number: usize, stay: &Stay<'_>, before: Option<usize>) -> Option<Cause>
-    ensures { result ≡ without_reply number stay.now.asked before }
+/// Where the client asked for a session; or where it did not, and the tap may have begun late.
+fn without_reply(number: usize, stay: &Stay<'_>, late: bool) -> Option<Cause>
+    ensures { result ≡ without_reply number stay.now.asked late }
 {
     match &stay.asked {
         Some(_) => Some(Cause::CutBeforeReply { stay: number }),
-        None => match before {
-            Some(_) => None,
-            None => Some(Cause::TapBeganLate { stay: number }),
-        },
+        None if late => Some(Cause::TapBeganLate { stay: number }),
+        None => None,
+    }
+}
+
+/// Whether nothing says that the tap has the connection from its beginning: the stay is the tap's first one, in its
+/// first connection, and has no CONNECT of the client. It costs the records of the connection up to the stay's last one.
+fn began_late(recording: &Recording<'_>, client: usize, number: usize, stay: &Stay<'_>) -> bool
+    ensures { result ≡ began_late recording.now client number stay.now }
+{
+    if number != 0 || !begins(stay.c, records_at(recording, client).first()) {
+        return false;
+    }
+    let end = end_of(places_at(recording, client).get(number));
+    !connects_before(recording, client, number, stay, end)
+}
+
+/// Whether the record begins the connection with this number.
+fn begins(conn: u64, rec: Option<&ClientRec>) -> bool
+    ensures { result ≡ begins conn (option_copied rec.entry) }
+{
+    match rec {
+        Some(ClientRec::Conn { c }) => *c == conn,
+        _ => false,
+    }
+}
+
+/// The number of the record that follows the stay's last one.
+fn end_of(places: Option<&StayPlaces>) -> usize
+    ensures { result ≡ end_of (option_copied places.entry) }
+{
+    match places {
+        Some(places) => places.last as usize + 1,
+        None => 0,
+    }
+}
+
+/// The records of the client's tap at this place.
+fn records_at<'a>(recording: &Recording<'a>, client: usize) -> &'a [ClientRec]
+    ensures { result.now ≡ records_at recording.now client }
+{
+    match recording.logs().client(client) {
+        Some(recs) => recs,
+        None => &[],
+    }
+}
+
+/// Whether the client's CONNECT is among the records of the stay with this number, in front of the record with this one.
+/// They stand past the last one of the stay before it in its connection and namespace.
+fn connects_before(
+    recording: &Recording<'_>,
+    client: usize,
+    number: usize,
+    stay: &Stay<'_>,
+    end: usize,
+) -> bool
+    ensures { result ≡ connects_before recording.now client number stay.now end }
+{
+    let before = stay_before(recording, client, number, stay);
+    let begin = begin_after(places_at(recording, client), before);
+    connects(
+        stay.nsp,
+        rest_after(front_of(records_at(recording, client), end), begin),
+    )
+}
+
+/// The last record of the stay with this number, if it is given; the tap's first one where it isn't.
+fn begin_after(places: &[StayPlaces], before: Option<usize>) -> usize
+    ensures { result ≡ begin_after places.now before }
+{
+    let Some(before) = before else {
+        return 0;
+    };
+    match places.get(before) {
+        Some(places) => places.last as usize,
+        None => 0,
+    }
+}
+
+/// Whether the client's CONNECT to the namespace is among these records, after the last `conn` of them.
+fn connects(nsp: &str, recs: &[ClientRec]) -> bool
+    ensures { result ≡ connects nsp.now false recs.now }
+{
+    let mut so_far = false;
+    for rec in recs {
+        so_far = connects_by(nsp, so_far, rec);
+    }
+    so_far
+}
+
+/// Whether it came so far on the connection, after this record too.
+fn connects_by(nsp: &str, so_far: bool, rec: &ClientRec) -> bool
+    ensures { result ≡ connects_by nsp.now so_far rec.now }
+{
+    match rec {
+        ClientRec::Conn { .. } => false,
+        ClientRec::TextOut { t } => so_far || says_connect(nsp, t),
+        _ => so_far,
+    }
+}
+
+/// Whether the text is a CONNECT to the namespace.
+fn says_connect(nsp: &str, text: &Text) -> bool
+    ensures { result ≡ says_connect nsp.now text.now }
+{
+    let bytes = text.as_str().as_bytes();
+    bytes.starts_with(b"40") && is_of_namespace(nsp, rest_after(bytes, 2))
+}
+
+/// Whether what follows a packet's type is of the namespace: it names it; the main one needs no name.
+fn is_of_namespace(nsp: &str, rest: &[u8]) -> bool
+    ensures { result ≡ is_of_namespace nsp.now rest.now }
+{
+    if nsp == "/" {
+        return !rest.starts_with(b"/");
+    }
+    rest.starts_with(nsp.as_bytes()) && is_end(rest.get(nsp.len()))
+}
+
+/// Whether this ends the namespace: a comma, or the end.
+fn is_end(byte: Option<&u8>) -> bool
+    ensures { result ≡ is_end (option_copied byte.entry) }
+{
+    match byte {
+        Some(byte) => *byte == b',',
+        None => true,
     }
 }
 

@@ -13,11 +13,11 @@ use Rattle.aud_check.specs.NamedStays.{has_sid}
 use Rattle.aud_session_facts.specs.Opened.{opened_in}
 use Rattle.aud_session_facts.specs.Recoveries.{stays_at}
 use Rattle.aud_causes.specs.declared.cause.Cause.{Cause}
-use Rattle.aud_causes.specs.declared.cause.Cause.TheVariants.{NamespaceDiffers, OutAfterAnswer, ReplyWithoutPid, SecondConnect, SidDiffers}
+use Rattle.aud_causes.specs.declared.cause.Cause.TheVariants.{NamespaceDiffers, OutAfterAnswer, ReplyWithoutPid, SecondConnect, SidDiffers, TapBeganLate}
 use Rattle.aud_causes.specs.Judged.{names_by, names_causes, named_at, orphan_at, other_at}
 use Rattle.aud_causes.specs.Names.{first_other, namespace_differs, sid_differs}
 use Rattle.aud_causes.specs.Differences.{cause_and}
-use Rattle.aud_causes.specs.Orphans.{answered_causes, before_causes, causes_of_before, is_disconnect, last_of_stay, orphan_causes_of, out_after_answer, replied_causes, stay_before, unreplied_causes, without_reply}
+use Rattle.aud_causes.specs.Orphans.{answered_causes, before_causes, began_late, causes_of_before, is_disconnect, last_of_stay, orphan_causes_of, out_after_answer, replied_causes, stay_before, unreplied_causes, without_reply}
 use Rattle.aud_causes.proofs.Listed.Each.{OfSome, is_listed, of_and, of_held, of_if}
 
 -- ---- NAMES
@@ -54,10 +54,9 @@ list_if : (b : Bool) (causes : List Cause) → list_all in_orphan causes ≡ tru
 list_if true causes h = h
 list_if false causes h = refl
 
-without_listed : (number : ℕ) (asked : Option AskedSeen) (before : Option ℕ) → OfSome in_orphan (without_reply number asked before)
-without_listed number (Some asked) before = refl
-without_listed number None (Some before) = tt
-without_listed number None None = refl
+without_listed : (number : ℕ) (asked : Option AskedSeen) (late : Bool) → OfSome in_orphan (without_reply number asked late)
+without_listed number (Some asked) late = refl
+without_listed number None late = of_if in_orphan late (TapBeganLate number) refl
 
 answered_listed : (number before : ℕ) (stay : StaySeen) → list_all in_orphan (answered_causes number before stay) ≡ true
 answered_listed number before stay =
@@ -76,8 +75,9 @@ of_before_listed c client number (Some before) =
 
 unreplied_listed : (c : Cluster) (client number : ℕ) (stay : StaySeen) (before : Option ℕ) → list_all in_orphan (unreplied_causes c client number stay before) ≡ true
 unreplied_listed c client number stay before =
-    of_and in_orphan (without_reply number stay.asked before) (causes_of_before c client number before)
-    (without_listed number stay.asked before)
+    let late = began_late c client number stay in
+    of_and in_orphan (without_reply number stay.asked late) (causes_of_before c client number before)
+    (without_listed number stay.asked late)
     (of_before_listed c client number before)
 
 replied_listed : (c : Cluster) (client number : ℕ) (stay : StaySeen) (reply : Option ReplySeen) → list_all in_orphan (replied_causes c client number stay reply) ≡ true
