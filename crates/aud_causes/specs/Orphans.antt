@@ -121,26 +121,35 @@ abbrev pub without_reply : ℕ → Option AskedSeen → Bool → Option Cause
 without_reply number (Some asked) late = Some (CutBeforeReply number)
 without_reply number None late = cause_if late (TapBeganLate number)
 
--- no session was asked for in the stay before
-abbrev pub out_after_answer : ℕ → ℕ → StaySeen → Option Cause
-out_after_answer number before stay = cause_if (is_none stay.asked) (OutAfterAnswer before number)
+-- the record of the reply, if there are both
+abbrev pub reply_place : Option PlacesSeen → ℕ
+reply_place None = 0
+reply_place (Some p) = unwrap_or p.reply 0
 
--- the stay before was answered: and no session asked for in it; or anyhow
-abbrev pub answered_causes : ℕ → ℕ → StaySeen → List Cause
-answered_causes number before stay =
-    if is_some stay.reply then cause_and (out_after_answer number before stay) (SecondConnect before number ∷ []) else []
+-- the client's CONNECT stands in the stay with this number in front of its reply
+abbrev pub is_asked_first : Cluster → ℕ → ℕ → StaySeen → Bool
+is_asked_first c client number stay = connects_before c client number stay (reply_place (slice_get (places_at c client) number))
+
+-- in the stay before no session was asked for, and no CONNECT of the client stands in front of its reply
+abbrev pub out_after_answer : ℕ → ℕ → StaySeen → Bool → Option Cause
+out_after_answer number before stay asked_first = cause_if (is_none stay.asked && not asked_first) (OutAfterAnswer before number)
+
+-- the stay before was answered: and its CONNECT may be recorded after its answer; or anyhow
+abbrev pub answered_causes : ℕ → ℕ → StaySeen → Bool → List Cause
+answered_causes number before stay asked_first =
+    if is_some stay.reply then cause_and (out_after_answer number before stay asked_first) (SecondConnect before number ∷ []) else []
 
 -- the stay before, if there is one, ended by a DISCONNECT; or else it was answered
-abbrev pub before_causes : ℕ → ℕ → Bool → Option StaySeen → List Cause
-before_causes number before true stay = AfterDisconnect before number ∷ []
-before_causes number before false None = []
-before_causes number before false (Some stay) = answered_causes number before stay
+abbrev pub before_causes : Cluster → ℕ → ℕ → ℕ → Bool → Option StaySeen → List Cause
+before_causes c client number before true stay = AfterDisconnect before number ∷ []
+before_causes c client number before false None = []
+before_causes c client number before false (Some stay) = answered_causes number before stay (is_asked_first c client before stay)
 
 -- the same of the stay with this number, if it is given
 abbrev pub causes_of_before : Cluster → ℕ → ℕ → Option ℕ → List Cause
 causes_of_before c client number None = []
 causes_of_before c client number (Some before) =
-    before_causes number before (is_disconnect (last_of_stay c client before)) (slice_get (stays_at c client) before)
+    before_causes c client number before (is_disconnect (last_of_stay c client before)) (slice_get (stays_at c client) before)
 
 -- of events in this stay, before which this one stands in its connection and namespace
 abbrev pub unreplied_causes : Cluster → ℕ → ℕ → StaySeen → Option ℕ → List Cause

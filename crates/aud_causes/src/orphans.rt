@@ -3,7 +3,7 @@ ghost use Rattle.std.specs.Prelude.{◌≡◌, ◌++◌, IfOk, None, OnOk, codes
 ghost use Rattle.std.specs.List.{starts_with};
 ghost use Rattle.std.specs.Option.{option_copied};
 ghost use Rattle.aud_session_facts.specs.Recoveries.{stays_at};
-ghost use Rattle.aud_causes.specs.Orphans.{answered_causes, began_late, begin_after, begins, causes_of_before, connects, connects_before, connects_by, end_of, is_beside, is_disconnect, is_end, is_of_namespace, last_beside, last_of_stay, orphan_causes, out_after_answer, records_at, replied_causes, says_connect, stay_before, unreplied_causes, without_reply};
+ghost use Rattle.aud_causes.specs.Orphans.{answered_causes, began_late, begin_after, begins, causes_of_before, connects, connects_before, connects_by, end_of, is_asked_first, is_beside, is_disconnect, is_end, is_of_namespace, last_beside, last_of_stay, orphan_causes, out_after_answer, records_at, replied_causes, reply_place, says_connect, stay_before, unreplied_causes, without_reply};
 
 use crate::bodies::places_at;
 use crate::cause::Cause;
@@ -276,8 +276,38 @@ fn push_before(
         return push_cause(found, Some(cause));
     }
     match stay_in(recording, client, before) {
-        Some(stay) => push_answered(found, number, before, stay),
+        Some(stay) => {
+            let asked_first = is_asked_first(recording, client, before, stay);
+            push_answered(found, number, before, stay, asked_first)
+        }
         None => Ok(()),
+    }
+}
+
+/// Whether the client's CONNECT stands in the stay with this number in front of its reply. It costs the stays before it,
+/// and the records between the one before it in its connection and namespace and the reply.
+fn is_asked_first(
+    recording: &Recording<'_>,
+    client: usize,
+    number: usize,
+    stay: &Stay<'_>,
+) -> bool
+    ensures { result ≡ is_asked_first recording.now client number stay.now }
+{
+    let reply = reply_place(places_at(recording, client).get(number));
+    connects_before(recording, client, number, stay, reply)
+}
+
+/// The record of the reply, if there are both.
+fn reply_place(places: Option<&StayPlaces>) -> usize
+    ensures { result ≡ reply_place (option_copied places.entry) }
+{
+    let Some(places) = places else {
+        return 0;
+    };
+    match places.reply {
+        Some(number) => number as usize,
+        None => 0,
     }
 }
 
@@ -310,20 +340,22 @@ fn says_disconnect(text: &Text) -> bool
     text.as_str().as_bytes().starts_with(b"41")
 }
 
-/// Adds the causes where this is the stay before, if it was answered.
+/// Adds the causes where this is the stay before, if it was answered. The flag says whether the client's CONNECT stands
+/// in front of the answer.
 fn push_answered(
     found: &mut Vec<Cause>,
     number: usize,
     before: usize,
     stay: &Stay<'_>,
+    asked_first: bool,
 ) -> Result<(), AllocError>
     ensures { OnOk result (found.new.items
-        ≡ found.old.items ++ answered_causes number before stay.now) }
+        ≡ found.old.items ++ answered_causes number before stay.now asked_first) }
 {
     if stay.reply.is_none() {
         return Ok(());
     }
-    push_cause(found, out_after_answer(number, before, stay))?;
+    push_cause(found, out_after_answer(number, before, stay, asked_first))?;
     let second = Cause::SecondConnect {
         before,
         stay: number,
@@ -331,11 +363,16 @@ fn push_answered(
     push_cause(found, Some(second))
 }
 
-/// Where no session was asked for in the stay before.
-fn out_after_answer(number: usize, before: usize, stay: &Stay<'_>) -> Option<Cause>
-    ensures { result ≡ out_after_answer number before stay.now }
+/// Where in the stay before no session was asked for, and no CONNECT of the client stands in front of its reply.
+fn out_after_answer(
+    number: usize,
+    before: usize,
+    stay: &Stay<'_>,
+    asked_first: bool,
+) -> Option<Cause>
+    ensures { result ≡ out_after_answer number before stay.now asked_first }
 {
-    if stay.asked.is_some() {
+    if stay.asked.is_some() || asked_first {
         return None;
     }
     Some(Cause::OutAfterAnswer {

@@ -1,5 +1,5 @@
 -- The causes of what a session's client tells otherwise than the nodes, or of nobody, have names of the fault's list.
-use Rattle.std.proofs.Common.{◌≡◌, ℕ, Bool, true, false, List, [], ◌∷◌, Option, Some, None, cond, not, refl, slice_get}
+use Rattle.std.proofs.Common.{◌≡◌, ◌&&◌, ℕ, Bool, true, false, List, [], ◌∷◌, Option, Some, None, cond, not, refl, slice_get}
 use Rattle.std.specs.Prelude.{is_none, is_some}
 use Rattle.std.specs.List.{list_all}
 use Rattle.std.specs.Str.{bytes_eq}
@@ -17,7 +17,7 @@ use Rattle.aud_causes.specs.declared.cause.Cause.TheVariants.{NamespaceDiffers, 
 use Rattle.aud_causes.specs.Judged.{names_by, names_causes, named_at, orphan_at, other_at}
 use Rattle.aud_causes.specs.Names.{first_other, namespace_differs, sid_differs}
 use Rattle.aud_causes.specs.Differences.{cause_and}
-use Rattle.aud_causes.specs.Orphans.{answered_causes, before_causes, began_late, causes_of_before, is_disconnect, last_of_stay, orphan_causes_of, out_after_answer, replied_causes, stay_before, unreplied_causes, without_reply}
+use Rattle.aud_causes.specs.Orphans.{answered_causes, before_causes, began_late, causes_of_before, is_asked_first, is_disconnect, last_of_stay, orphan_causes_of, out_after_answer, replied_causes, stay_before, unreplied_causes, without_reply}
 use Rattle.aud_causes.proofs.Listed.Each.{OfSome, is_listed, of_and, of_held, of_if}
 
 -- ---- NAMES
@@ -58,20 +58,22 @@ without_listed : (number : ℕ) (asked : Option AskedSeen) (late : Bool) → OfS
 without_listed number (Some asked) late = refl
 without_listed number None late = of_if in_orphan late (TapBeganLate number) refl
 
-answered_listed : (number before : ℕ) (stay : StaySeen) → list_all in_orphan (answered_causes number before stay) ≡ true
-answered_listed number before stay =
-    list_if (is_some stay.reply) (cause_and (out_after_answer number before stay) (SecondConnect before number ∷ []))
-    (of_and in_orphan (out_after_answer number before stay) (SecondConnect before number ∷ []) (of_if in_orphan (is_none stay.asked) (OutAfterAnswer before number) refl) refl)
+answered_listed : (number before : ℕ) (stay : StaySeen) (first : Bool) → list_all in_orphan (answered_causes number before stay first) ≡ true
+answered_listed number before stay first =
+    list_if (is_some stay.reply) (cause_and (out_after_answer number before stay first) (SecondConnect before number ∷ []))
+    (of_and in_orphan (out_after_answer number before stay first) (SecondConnect before number ∷ [])
+    (of_if in_orphan (is_none stay.asked && not first) (OutAfterAnswer before number) refl) refl)
 
-before_listed : (number before : ℕ) (left : Bool) (stay : Option StaySeen) → list_all in_orphan (before_causes number before left stay) ≡ true
-before_listed number before true stay = refl
-before_listed number before false None = refl
-before_listed number before false (Some stay) = answered_listed number before stay
+before_listed : (c : Cluster) (client number before : ℕ) (left : Bool) (stay : Option StaySeen)
+    → list_all in_orphan (before_causes c client number before left stay) ≡ true
+before_listed c client number before true stay = refl
+before_listed c client number before false None = refl
+before_listed c client number before false (Some stay) = answered_listed number before stay (is_asked_first c client before stay)
 
 of_before_listed : (c : Cluster) (client number : ℕ) (before : Option ℕ) → list_all in_orphan (causes_of_before c client number before) ≡ true
 of_before_listed c client number None = refl
 of_before_listed c client number (Some before) =
-    before_listed number before (is_disconnect (last_of_stay c client before)) (slice_get (stays_at c client) before)
+    before_listed c client number before (is_disconnect (last_of_stay c client before)) (slice_get (stays_at c client) before)
 
 unreplied_listed : (c : Cluster) (client number : ℕ) (stay : StaySeen) (before : Option ℕ) → list_all in_orphan (unreplied_causes c client number stay before) ≡ true
 unreplied_listed c client number stay before =
