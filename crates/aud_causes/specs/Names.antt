@@ -1,5 +1,5 @@
 -- What a fault of a client's tap may come from.
-use Rattle.std.specs.Prelude.{ℕ, suc, zero, Bool, false, not, ◌&&◌, List, [], ◌∷◌, Option, Some, None, if◌then◌else◌}
+use Rattle.std.specs.Prelude.{ℕ, suc, zero, Bool, true, false, not, ◌&&◌, ◌||◌, List, [], ◌∷◌, Option, Some, None, is_none, is_some, if◌then◌else◌}
 use Rattle.std.specs.Option.{option_map}
 use Rattle.std.specs.Str.{bytes_eq}
 use Rattle.aud_tap.specs.declared.taps.Tap.{Tap}
@@ -11,24 +11,37 @@ use Rattle.aud_check.specs.NamedStays.{has_sid}
 use Rattle.aud_causes.specs.declared.cause.Cause.{Cause}
 use Rattle.aud_causes.specs.declared.cause.Cause.TheVariants.{NoClientTap, ReplyMissing, TwoTaps, SidDiffers, NamespaceDiffers}
 use Rattle.aud_causes.specs.Delivery.{cause_if, held}
+use Rattle.aud_causes.specs.Orphans.{is_disconnect, last_of_stay}
 
 -- ---- the taps that name the session
 
--- events of a client's tap are in a stay whose reply names nobody, or that has none
-abbrev pub has_orphan : Option TranscriptSeen → Bool
-has_orphan None = false
-has_orphan (Some transcript) = transcript.orphan
+-- the stay with this number of the client's tap at this place has no reply; and the client asked in it for a session, or it
+-- doesn't end by a DISCONNECT: so its CONNECT has no answer, or a CONNECT_ERROR for one, or the answer is missing
+abbrev pub is_unanswered : Cluster → ℕ → ℕ → StaySeen → Bool
+is_unanswered c client number stay = is_none stay.reply && (is_some stay.asked || not (is_disconnect (last_of_stay c client number)))
+
+-- one of these stays is such a one; they count on from this number
+abbrev pub has_unanswered : Cluster → ℕ → ℕ → List StaySeen → Bool
+has_unanswered c client number [] = false
+has_unanswered c client number (stay ∷ stays) =
+    if is_unanswered c client number stay then true else has_unanswered c client (suc number) stays
+
+-- the client's tap at this place has events in a stay whose reply names nobody, or that has none; or a stay that was not
+-- answered
+abbrev pub has_unnamed : Cluster → ℕ → Option TranscriptSeen → Bool
+has_unnamed c place None = false
+has_unnamed c place (Some transcript) = transcript.orphan || has_unanswered c place 0 transcript.stays
 
 -- the place of the first client's tap of which it is so, among these taps, the first of which is at this place
-abbrev pub orphan_from : Cluster → ℕ → List Tap → Option ℕ
-orphan_from c place [] = None
-orphan_from c place (tap ∷ taps) = if has_orphan (transcript_at c place) then Some place else orphan_from c (suc place) taps
+abbrev pub unnamed_from : Cluster → ℕ → List Tap → Option ℕ
+unnamed_from c place [] = None
+unnamed_from c place (tap ∷ taps) = if has_unnamed c place (transcript_at c place) then Some place else unnamed_from c (suc place) taps
 
--- a client's tap has events of no known session: the first that has any
+-- a client's tap has a CONNECT or events of no known session: the first that has any
 abbrev pub reply_missing : Cluster → Option Cause
-reply_missing c = option_map ReplyMissing (orphan_from c 0 c.taps)
+reply_missing c = option_map ReplyMissing (unnamed_from c 0 c.taps)
 
--- of a session that no client's tap names: no tap does; a tap has events of no known session
+-- of a session that no client's tap names: no tap does; a tap has a CONNECT or events of no known session
 abbrev pub unnamed_causes : Cluster → List Cause
 unnamed_causes c = held (Some NoClientTap ∷ reply_missing c ∷ [])
 

@@ -168,7 +168,7 @@ row_of NoClientTap = row (codes "no-client-tap") []
     (codes "No tap of a client names the session.") []
     (codes "tap the client before its first connection.")
 row_of (ReplyMissing client) = row (codes "reply-missing") []
-    (codes "The tap of # has events, and no reply that names their session.") (Name client ∷ [])
+    (codes "The tap of # has a CONNECT or events, and no reply that names their session.") (Name client ∷ [])
     (codes "begin a client's tap before its first packet, and record each answer to a CONNECT.")
 row_of (SidDiffers stay) = row (codes "sid-differs") (Reply stay ∷ [])
     (codes "The reply has another sid than the session was opened with.") []

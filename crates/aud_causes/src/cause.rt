@@ -189,7 +189,7 @@ pub enum Cause {
     },
     /// No client's tap names the session.
     NoClientTap,
-    /// A client's tap, at this place, has events of no known session.
+    /// A client's tap, at this place, has a CONNECT or events of no known session.
     ReplyMissing {
         client: usize,
     },

@@ -3,16 +3,17 @@ ghost use Rattle.std.specs.Prelude.{◌≡◌, IfOk, length, map};
 ghost use Rattle.aud_check.specs.NamedStays.{has_sid};
 ghost use Rattle.aud_client.specs.Received.{transcript_at};
 ghost use Rattle.aud_client.specs.Replies.{naming_places};
-ghost use Rattle.aud_causes.specs.Names.{client_causes, first_other, has_orphan, is_other, named_causes, namespace_differs, orphan_from, reply_missing, sid_differs, unnamed_causes};
+ghost use Rattle.aud_causes.specs.Names.{client_causes, first_other, has_unanswered, has_unnamed, is_other, is_unanswered, named_causes, namespace_differs, reply_missing, sid_differs, unnamed_causes, unnamed_from};
 
 use crate::cause::Cause;
 use crate::list::held;
+use crate::orphans::{is_disconnect, last_of_stay};
 use aud_client::{Recording, Reply, Stay};
 use aud_tap::Tap;
 use std::alloc::{AllocError, Global};
 
-/// Where not exactly one client's tap names the session. Where none does it costs the taps, of which no record is looked
-/// at.
+/// Where not exactly one client's tap names the session. Where none does it costs the stays of the clients' taps, up to
+/// the first that was not answered; of a stay without a reply its last record is looked at.
 pub(crate) fn client_causes(
     alloc: Global,
     recording: &Recording<'_>,
@@ -35,34 +36,61 @@ fn unnamed_causes(alloc: Global, recording: &Recording<'_>) -> Result<Vec<Cause>
     held(alloc, &[Some(Cause::NoClientTap), reply_missing(recording)])
 }
 
-/// Where a client's tap has events of no known session: the first such tap.
+/// Where a client's tap has a CONNECT or events of no known session: the first such tap.
 fn reply_missing(recording: &Recording<'_>) -> Option<Cause>
     ensures { result ≡ reply_missing recording.now }
 {
-    let client = orphan_from(recording, recording.logs().taps())?;
+    let client = unnamed_from(recording, recording.logs().taps())?;
     Some(Cause::ReplyMissing { client })
 }
 
-/// The place of the first client's tap with events of no known session, among these taps, which are all.
-fn orphan_from(recording: &Recording<'_>, taps: &[Tap]) -> Option<usize>
-    ensures { result ≡ orphan_from recording.now 0 taps.now }
+/// The place of the first client's tap with a CONNECT or events of no known session, among these taps, which are all.
+fn unnamed_from(recording: &Recording<'_>, taps: &[Tap]) -> Option<usize>
+    ensures { result ≡ unnamed_from recording.now 0 taps.now }
 {
     for place in 0..taps.len() {
-        if has_orphan(recording, place) {
+        if has_unnamed(recording, place) {
             return Some(place);
         }
     }
     None
 }
 
-/// Whether the tap at this place has events of no known session.
-fn has_orphan(recording: &Recording<'_>, place: usize) -> bool
-    ensures { result ≡ has_orphan (transcript_at recording.now place) }
+/// Whether the tap at this place has events in a stay whose reply names nobody, or that has none; or a stay that was not
+/// answered.
+fn has_unnamed(recording: &Recording<'_>, place: usize) -> bool
+    ensures { result ≡ has_unnamed recording.now place (transcript_at recording.now place) }
 {
     match recording.client(place) {
-        Some(client) => client.transcript().orphan,
+        Some(client) => {
+            let transcript = client.transcript();
+            transcript.orphan || has_unanswered(recording, place, transcript.stays.as_slice())
+        }
         None => false,
     }
+}
+
+/// Whether one of these stays, which are all of the client's tap at this place, was not answered.
+fn has_unanswered(recording: &Recording<'_>, client: usize, stays: &[Stay<'_>]) -> bool
+    ensures { result ≡ has_unanswered recording.now client 0 stays.now }
+{
+    for (number, stay) in stays.iter().enumerate() {
+        if is_unanswered(recording, client, number, stay) {
+            return true;
+        }
+    }
+    false
+}
+
+/// Whether the stay with this number has no reply; and the client asked in it for a session, or it doesn't end by a
+/// DISCONNECT.
+fn is_unanswered(recording: &Recording<'_>, client: usize, number: usize, stay: &Stay<'_>) -> bool
+    ensures { result ≡ is_unanswered recording.now client number stay.now }
+{
+    if stay.reply.is_some() {
+        return false;
+    }
+    stay.asked.is_some() || !is_disconnect(last_of_stay(recording, client, number))
 }
 
 /// What differs between this stay, whose reply names the session, and the session's `open`, which has this sid and

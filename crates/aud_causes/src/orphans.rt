@@ -312,7 +312,7 @@ fn reply_place(places: Option<&StayPlaces>) -> usize
 }
 
 /// The last record of the stay with this number of the client's tap at this place.
-fn last_of_stay<'a>(
+pub(crate) fn last_of_stay<'a>(
     recording: &Recording<'a>,
     client: usize,
     number: usize,
@@ -324,7 +324,7 @@ fn last_of_stay<'a>(
 }
 
 /// Whether the record is a DISCONNECT of either side.
-fn is_disconnect(rec: Option<&ClientRec>) -> bool
+pub(crate) fn is_disconnect(rec: Option<&ClientRec>) -> bool
     ensures { result ≡ is_disconnect (option_copied rec.entry) }
 {
     match rec {

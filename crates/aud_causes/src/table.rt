@@ -336,7 +336,7 @@ pub(crate) fn row_of(cause: Cause) -> Row
         Cause::ReplyMissing { client } => Row {
             id: "reply-missing",
             records: Nothing,
-            why: "The tap of # has events, and no reply that names their session.",
+            why: "The tap of # has a CONNECT or events, and no reply that names their session.",
             figures: [Some(Name(client)), None, None],
             todo: "begin a client's tap before its first packet, and record each answer to a CONNECT.",
         },

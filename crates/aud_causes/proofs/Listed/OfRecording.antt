@@ -25,7 +25,7 @@ use Rattle.aud_causes.specs.declared.twice.Twice.{Twice}
 use Rattle.aud_causes.specs.Chain.{chain_causes}
 use Rattle.aud_causes.specs.Cleared.{broke_by, cleared_after_break, cleared_at, cleared_by, cleared_in, cleared_on, first_cleared, place_on}
 use Rattle.aud_causes.specs.Logs.{first_cause, later_cause, order_cause, record_cause, recoveries, take_cause, taken_again, takes_cause, unknown}
-use Rattle.aud_causes.specs.Names.{client_causes, orphan_from, reply_missing}
+use Rattle.aud_causes.specs.Names.{client_causes, reply_missing, unnamed_from}
 use Rattle.aud_causes.specs.Recorded.{first_own, no_log_cause, opened_by, order_causes}
 use Rattle.aud_causes.specs.Turns.{begins_of, breaks_of, ends_of, is_untapped, missing_break, missing_breaks, missing_by, missing_causes, not_tapped, recovery_after, unbroken_at}
 use Rattle.aud_causes.specs.Differences.{cause_and}
@@ -177,6 +177,6 @@ in_client = is_listed fault.Client
 pub client_listed : (c : Cluster) (count : ℕ) → list_all in_client (client_causes c count) ≡ true
 client_listed c zero =
     of_held in_client (Some NoClientTap ∷ reply_missing c ∷ [])
-    (refl, (of_map in_client ReplyMissing (λ client. refl) (orphan_from c 0 c.taps), tt))
+    (refl, (of_map in_client ReplyMissing (λ client. refl) (unnamed_from c 0 c.taps), tt))
 client_listed c (suc zero) = refl
 client_listed c (suc (suc more)) = refl

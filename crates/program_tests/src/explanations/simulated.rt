@@ -64,7 +64,8 @@ no one client, turns 1, delivery not judged
     turn 0  n1  5 open, cursor 0 == take 1 == 8 log ends, cursor 1
 cause no-client-tap (fits): No tap of a client names the session.
 do: tap the client before its first connection.
-cause reply-missing (fits): The tap of c1 has events, and no reply that names their session.
+cause reply-missing (fits): The tap of c1 has a CONNECT or events, and no reply that names their
+        session.
 do: begin a client's tap before its first packet, and record each answer to a CONNECT.
 
 sessions: *"#,

@@ -1,7 +1,0 @@
-use Rattle.std.proofs.Common.{◌≡◌, drop}
-use Rattle.aud_causes.specs.Names.{orphan_from}
-use Rattle.aud_causes.proofs.names.orphan_from.Given as goal
-
--- the taps to come give it
-abbrev pub invariant-loop-place : goal.invariant-loop-place
-invariant-loop-place l = orphan_from l.recording l.place (drop l.place l.taps) ≡ orphan_from l.recording 0 l.taps
