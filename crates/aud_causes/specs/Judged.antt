@@ -1,5 +1,5 @@
 -- What a fault may come from of a session that has a certificate.
-use Rattle.std.specs.Prelude.{ℕ, List, [], ◌∷◌, Option, Some, None, slice_get}
+use Rattle.std.specs.Prelude.{ℕ, List, [], ◌∷◌, Option, Some, None}
 use Rattle.aud_node.specs.Cluster.{Cluster}
 use Rattle.aud_node.specs.Stream.{Text}
 use Rattle.aud_client.specs.StaySeen.{StaySeen}
@@ -16,7 +16,7 @@ use Rattle.aud_causes.specs.Differences.{Case, difference_causes}
 use Rattle.aud_causes.specs.Contents.{content_causes}
 use Rattle.aud_causes.specs.Windows.{window_causes}
 use Rattle.aud_causes.specs.NoPacket.{no_packet_in}
-use Rattle.aud_causes.specs.Names.{first_other, named_causes}
+use Rattle.aud_causes.specs.Names.{named_causes}
 use Rattle.aud_causes.specs.Orphans.{orphan_causes}
 
 -- the causes of what was found: of an event that isn't its entry, of where what was received parts from what was due, and
@@ -27,26 +27,12 @@ causes_found s (Some (Delivery difference)) = difference_causes s difference
 causes_found s (Some (Window window)) = window_causes s.c.stream s.stays s.due window
 causes_found s _ = []
 
--- what differs in this stay, if there is one
-abbrev pub named_at : ℕ → Text → Text → Option StaySeen → List Cause
-named_at number sid nsp None = []
-named_at number sid nsp (Some stay) = named_causes number sid nsp stay
-
--- what differs in the stay with this number, if there is one
-abbrev pub other_at : Text → Text → List StaySeen → Option ℕ → List Cause
-other_at sid nsp stays None = []
-other_at sid nsp stays (Some number) = named_at number sid nsp (slice_get stays number)
-
--- what differs in the first of the stays that has another sid or namespace than these
-abbrev pub other_causes : Text → Text → List StaySeen → List Cause
-other_causes sid nsp stays = other_at sid nsp stays (first_other sid nsp 0 stays)
-
--- the same, where this is what the session's first record opens
+-- what differs between the stays and this, which the session's first record opens
 abbrev pub names_by : Option (Text × Text × ℕ) → List StaySeen → List Cause
 names_by None stays = []
-names_by (Some opened) stays = other_causes opened.0 opened.1 stays
+names_by (Some opened) stays = named_causes opened.0 opened.1 stays
 
--- what differs between the session's `open` and the first reply that names it otherwise
+-- what differs between the session's `open` and the replies that name it
 abbrev pub names_causes : List TurnSeen → List StaySeen → List Cause
 names_causes turns stays = names_by (opened_in turns) stays
 

@@ -10,7 +10,7 @@ use Rattle.aud_client.specs.StaySeen.{StaySeen}
 use Rattle.aud_check.specs.NamedStays.{has_sid}
 use Rattle.aud_causes.specs.declared.cause.Cause.{Cause}
 use Rattle.aud_causes.specs.declared.cause.Cause.TheVariants.{NoClientTap, ReplyMissing, TwoTaps, SidDiffers, NamespaceDiffers}
-use Rattle.aud_causes.specs.Delivery.{cause_if, held}
+use Rattle.aud_causes.specs.Delivery.{held}
 use Rattle.aud_causes.specs.Orphans.{is_disconnect, last_of_stay}
 
 -- ---- the taps that name the session
@@ -53,23 +53,24 @@ client_causes c (suc (suc more)) = TwoTaps (suc (suc more)) ∷ []
 
 -- ---- the names
 
--- the stay is of another namespace than this, or its reply has another sid
-abbrev pub is_other : Text → Text → StaySeen → Bool
-is_other sid nsp stay = not (bytes_eq stay.nsp nsp && has_sid sid stay.reply)
+-- the number of the first of the stays whose reply has another sid than this; they count on from this number
+abbrev pub other_sid : Text → ℕ → List StaySeen → Option ℕ
+other_sid sid number [] = None
+other_sid sid number (stay ∷ stays) = if has_sid sid stay.reply then other_sid sid (suc number) stays else Some number
 
--- the number of the first of the stays that is; they count on from this number
-abbrev pub first_other : Text → Text → ℕ → List StaySeen → Option ℕ
-first_other sid nsp number [] = None
-first_other sid nsp number (stay ∷ stays) = if is_other sid nsp stay then Some number else first_other sid nsp (suc number) stays
+-- that of the first which is of another namespace
+abbrev pub other_namespace : Text → ℕ → List StaySeen → Option ℕ
+other_namespace nsp number [] = None
+other_namespace nsp number (stay ∷ stays) = if bytes_eq stay.nsp nsp then other_namespace nsp (suc number) stays else Some number
 
--- its reply has another sid
-abbrev pub sid_differs : ℕ → Text → StaySeen → Option Cause
-sid_differs number sid stay = cause_if (not (has_sid sid stay.reply)) (SidDiffers number)
+-- a reply has another sid: the first such one
+abbrev pub sid_differs : Text → List StaySeen → Option Cause
+sid_differs sid stays = option_map SidDiffers (other_sid sid 0 stays)
 
--- it is of another namespace
-abbrev pub namespace_differs : ℕ → Text → StaySeen → Option Cause
-namespace_differs number nsp stay = cause_if (not (bytes_eq stay.nsp nsp)) (NamespaceDiffers number)
+-- a reply is of another namespace: the first such one
+abbrev pub namespace_differs : Text → List StaySeen → Option Cause
+namespace_differs nsp stays = option_map NamespaceDiffers (other_namespace nsp 0 stays)
 
--- what differs in the stay with this number
-abbrev pub named_causes : ℕ → Text → Text → StaySeen → List Cause
-named_causes number sid nsp stay = held (sid_differs number sid stay ∷ namespace_differs number nsp stay ∷ [])
+-- what differs in these stays, whose replies name the session
+abbrev pub named_causes : Text → Text → List StaySeen → List Cause
+named_causes sid nsp stays = held (sid_differs sid stays ∷ namespace_differs nsp stays ∷ [])

@@ -3,15 +3,14 @@ ghost use Rattle.std.specs.Prelude.{◌≡◌, ◌∷◌, [], IfOk, map};
 ghost use Rattle.aud_maker.specs.Made.{IsMade};
 ghost use Rattle.aud_causes.specs.declared.cause.Cause.TheVariants.{NotAPacket};
 ghost use Rattle.aud_causes.specs.Differences.{case_of};
-ghost use Rattle.aud_causes.specs.Judged.{causes_found, judged_causes, names_causes, orphan_at, other_causes};
+ghost use Rattle.aud_causes.specs.Judged.{causes_found, judged_causes, names_causes, orphan_at};
 ghost use Rattle.aud_causes.specs.NoPacket.{no_packet_in};
 
 use crate::cause::Cause;
 use crate::contents::content_causes;
 use crate::delivery::difference_causes;
-use crate::facts::stay_at;
 use crate::list::held;
-use crate::names::{first_other, named_causes};
+use crate::names::named_causes;
 use crate::no_packet::no_packet_in;
 use crate::orphans::orphan_causes;
 use crate::window::window_causes;
@@ -86,7 +85,7 @@ fn frame_of(
     held(alloc, &[Some(Cause::NotAPacket { why })])
 }
 
-/// What differs between the session's `open` and the first reply that names it otherwise.
+/// What differs between the session's `open` and the replies that name it.
 fn names_of(alloc: Global, account: &Account<'_, '_>) -> Result<Vec<Cause>, AllocError>
     ensures { IfOk result (λ found. found.items
         ≡ names_causes account.now.cert.turns (map (λ stay. stay.now) account.now.stays.items)) }
@@ -108,26 +107,7 @@ fn names_causes(
         ≡ names_causes turns.now (map (λ stay. stay.now) stays.now)) }
 {
     match opened_in(turns) {
-        Some(opened) => other_causes(alloc, stays, opened.sid, opened.nsp),
-        None => Ok(Vec::new(alloc)),
-    }
-}
-
-/// What differs in the first of the stays that has another sid or namespace than these.
-fn other_causes(
-    alloc: Global,
-    stays: &[&Stay<'_>],
-    sid: &str,
-    nsp: &str,
-) -> Result<Vec<Cause>, AllocError>
-    ensures { IfOk result (λ found. found.items
-        ≡ other_causes sid.now nsp.now (map (λ stay. stay.now) stays.now)) }
-{
-    let Some(number) = first_other(stays, sid, nsp) else {
-        return Ok(Vec::new(alloc));
-    };
-    match stay_at(stays, number) {
-        Some(stay) => named_causes(alloc, number, stay, sid, nsp),
+        Some(opened) => named_causes(alloc, stays, opened.sid, opened.nsp),
         None => Ok(Vec::new(alloc)),
     }
 }

@@ -3,7 +3,7 @@ ghost use Rattle.std.specs.Prelude.{◌≡◌, IfOk, length, map};
 ghost use Rattle.aud_check.specs.NamedStays.{has_sid};
 ghost use Rattle.aud_client.specs.Received.{transcript_at};
 ghost use Rattle.aud_client.specs.Replies.{naming_places};
-ghost use Rattle.aud_causes.specs.Names.{client_causes, first_other, has_unanswered, has_unnamed, is_other, is_unanswered, named_causes, namespace_differs, reply_missing, sid_differs, unnamed_causes, unnamed_from};
+ghost use Rattle.aud_causes.specs.Names.{client_causes, has_unanswered, has_unnamed, is_unanswered, named_causes, namespace_differs, other_namespace, other_sid, reply_missing, sid_differs, unnamed_causes, unnamed_from};
 
 use crate::cause::Cause;
 use crate::list::held;
@@ -93,42 +93,61 @@ fn is_unanswered(recording: &Recording<'_>, client: usize, number: usize, stay: 
     stay.asked.is_some() || !is_disconnect(last_of_stay(recording, client, number))
 }
 
-/// What differs between this stay, whose reply names the session, and the session's `open`, which has this sid and
-/// namespace.
+/// What differs between the replies in these stays, which name the session, and the session's `open`, which has this sid
+/// and namespace.
 pub(crate) fn named_causes(
     alloc: Global,
-    number: usize,
-    stay: &Stay<'_>,
+    stays: &[&Stay<'_>],
     sid: &str,
     nsp: &str,
 ) -> Result<Vec<Cause>, AllocError>
-    ensures { IfOk result (λ found. found.items ≡ named_causes number sid.now nsp.now stay.now) }
+    ensures { IfOk result (λ found. found.items
+        ≡ named_causes sid.now nsp.now (map (λ stay. stay.now) stays.now)) }
 {
     held(
         alloc,
-        &[
-            sid_differs(number, stay, sid),
-            namespace_differs(number, stay, nsp),
-        ],
+        &[sid_differs(stays, sid), namespace_differs(stays, nsp)],
     )
 }
 
-fn sid_differs(number: usize, stay: &Stay<'_>, sid: &str) -> Option<Cause>
-    ensures { result ≡ sid_differs number sid.now stay.now }
+/// Where a reply has another sid: the first such one.
+fn sid_differs(stays: &[&Stay<'_>], sid: &str) -> Option<Cause>
+    ensures { result ≡ sid_differs sid.now (map (λ stay. stay.now) stays.now) }
 {
-    if has_sid(&stay.reply, sid) {
-        return None;
-    }
-    Some(Cause::SidDiffers { stay: number })
+    let stay = other_sid(stays, sid)?;
+    Some(Cause::SidDiffers { stay })
 }
 
-fn namespace_differs(number: usize, stay: &Stay<'_>, nsp: &str) -> Option<Cause>
-    ensures { result ≡ namespace_differs number nsp.now stay.now }
+/// Where a reply is of another namespace: the first such one.
+fn namespace_differs(stays: &[&Stay<'_>], nsp: &str) -> Option<Cause>
+    ensures { result ≡ namespace_differs nsp.now (map (λ stay. stay.now) stays.now) }
 {
-    if stay.nsp == nsp {
-        return None;
+    let stay = other_namespace(stays, nsp)?;
+    Some(Cause::NamespaceDiffers { stay })
+}
+
+/// The number of the first of the stays whose reply has another sid.
+fn other_sid(stays: &[&Stay<'_>], sid: &str) -> Option<usize>
+    ensures { result ≡ other_sid sid.now 0 (map (λ stay. stay.now) stays.now) }
+{
+    for (number, stay) in stays.iter().enumerate() {
+        if !has_sid(&stay.reply, sid) {
+            return Some(number);
+        }
     }
-    Some(Cause::NamespaceDiffers { stay: number })
+    None
+}
+
+/// The number of the first of the stays that is of another namespace.
+fn other_namespace(stays: &[&Stay<'_>], nsp: &str) -> Option<usize>
+    ensures { result ≡ other_namespace nsp.now 0 (map (λ stay. stay.now) stays.now) }
+{
+    for (number, stay) in stays.iter().enumerate() {
+        if stay.nsp != nsp {
+            return Some(number);
+        }
+    }
+    None
 }
 
 /// Whether there is a reply, and it has this sid.
@@ -139,23 +158,4 @@ fn has_sid(reply: &Option<Reply>, sid: &str) -> bool
         Some(reply) => reply.sid.as_str() == sid,
         None => false,
     }
-}
-
-/// Whether the stay has another sid or namespace than these.
-fn is_other(stay: &Stay<'_>, sid: &str, nsp: &str) -> bool
-    ensures { result ≡ is_other sid.now nsp.now stay.now }
-{
-    !(stay.nsp == nsp && has_sid(&stay.reply, sid))
-}
-
-/// The number of the first of the stays that has.
-pub(crate) fn first_other(stays: &[&Stay<'_>], sid: &str, nsp: &str) -> Option<usize>
-    ensures { result ≡ first_other sid.now nsp.now 0 (map (λ stay. stay.now) stays.now) }
-{
-    for (number, stay) in stays.iter().enumerate() {
-        if is_other(*stay, sid, nsp) {
-            return Some(number);
-        }
-    }
-    None
 }

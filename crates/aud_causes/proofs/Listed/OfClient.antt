@@ -2,23 +2,21 @@
 use Rattle.std.proofs.Common.{◌≡◌, ◌&&◌, ℕ, Bool, true, false, List, [], ◌∷◌, Option, Some, None, cond, not, refl, slice_get}
 use Rattle.std.specs.Prelude.{is_none, is_some}
 use Rattle.std.specs.List.{list_all}
-use Rattle.std.specs.Str.{bytes_eq}
 use Rattle.aud_node.specs.Cluster.{Cluster}
 use Rattle.aud_node.specs.Stream.{Text}
 use Rattle.aud_client.specs.Replies.{ReplySeen}
 use Rattle.aud_client.specs.StaySeen.{AskedSeen, StaySeen}
 use Rattle.aud_cert.specs.Certificate.{TurnSeen}
 use Rattle.aud_cert.specs.declared.fault.Fault.TheVariants as fault
-use Rattle.aud_check.specs.NamedStays.{has_sid}
 use Rattle.aud_session_facts.specs.Opened.{opened_in}
 use Rattle.aud_session_facts.specs.Recoveries.{stays_at}
 use Rattle.aud_causes.specs.declared.cause.Cause.{Cause}
 use Rattle.aud_causes.specs.declared.cause.Cause.TheVariants.{NamespaceDiffers, OutAfterAnswer, ReplyWithoutPid, SecondConnect, SidDiffers, TapBeganLate}
-use Rattle.aud_causes.specs.Judged.{names_by, names_causes, named_at, orphan_at, other_at}
-use Rattle.aud_causes.specs.Names.{first_other, namespace_differs, sid_differs}
+use Rattle.aud_causes.specs.Judged.{names_by, names_causes, orphan_at}
+use Rattle.aud_causes.specs.Names.{named_causes, namespace_differs, other_namespace, other_sid, sid_differs}
 use Rattle.aud_causes.specs.Differences.{cause_and}
 use Rattle.aud_causes.specs.Orphans.{answered_causes, before_causes, began_late, causes_of_before, is_asked_first, is_disconnect, last_of_stay, orphan_causes_of, out_after_answer, replied_causes, stay_before, unreplied_causes, without_reply}
-use Rattle.aud_causes.proofs.Listed.Each.{OfSome, is_listed, of_and, of_held, of_if}
+use Rattle.aud_causes.proofs.Listed.Each.{OfSome, is_listed, of_and, of_held, of_if, of_map}
 
 -- ---- NAMES
 
@@ -26,19 +24,14 @@ use Rattle.aud_causes.proofs.Listed.Each.{OfSome, is_listed, of_and, of_held, of
 abbrev in_names : Cause → Bool
 in_names = is_listed fault.Names
 
-named_listed : (number : ℕ) (sid nsp : Text) (stay : Option StaySeen) → list_all in_names (named_at number sid nsp stay) ≡ true
-named_listed number sid nsp None = refl
-named_listed number sid nsp (Some stay) =
-    of_held in_names (sid_differs number sid stay ∷ namespace_differs number nsp stay ∷ [])
-    (of_if in_names (not (has_sid sid stay.reply)) (SidDiffers number) refl, (of_if in_names (not (bytes_eq stay.nsp nsp)) (NamespaceDiffers number) refl, tt))
-
-other_listed : (sid nsp : Text) (stays : List StaySeen) (number : Option ℕ) → list_all in_names (other_at sid nsp stays number) ≡ true
-other_listed sid nsp stays None = refl
-other_listed sid nsp stays (Some number) = named_listed number sid nsp (slice_get stays number)
+named_listed : (sid nsp : Text) (stays : List StaySeen) → list_all in_names (named_causes sid nsp stays) ≡ true
+named_listed sid nsp stays =
+    of_held in_names (sid_differs sid stays ∷ namespace_differs nsp stays ∷ [])
+    (of_map in_names SidDiffers (λ stay. refl) (other_sid sid 0 stays), (of_map in_names NamespaceDiffers (λ stay. refl) (other_namespace nsp 0 stays), tt))
 
 opened_listed : (opened : Option (Text × Text × ℕ)) (stays : List StaySeen) → list_all in_names (names_by opened stays) ≡ true
 opened_listed None stays = refl
-opened_listed (Some opened) stays = other_listed opened.0 opened.1 stays (first_other opened.0 opened.1 0 stays)
+opened_listed (Some opened) stays = named_listed opened.0 opened.1 stays
 
 pub names_listed : (turns : List TurnSeen) (stays : List StaySeen) → list_all in_names (names_causes turns stays) ≡ true
 names_listed turns stays = opened_listed (opened_in turns) stays
