@@ -1,6 +1,10 @@
 -- What a fault of the recording may come from.
-use Rattle.std.specs.Prelude.{◌≡◌, ℕ, List, [], ◌∷◌, flat_map, length, Option, Some, None, option_to_list, slice_get}
+use Rattle.std.specs.Prelude.{◌≡◌, ℕ, Bool, true, false, List, [], ◌∷◌, flat_map, length, Option, Some, None, option_to_list, slice_get}
+use Rattle.std.specs.List.{list_any}
 use Rattle.std.specs.Option.{option_and_then, option_map}
+use Rattle.aud_tap.specs.declared.taps.Tap.{Tap}
+use Rattle.aud_tap.specs.declared.taps.Records.{Records}
+use Rattle.aud_tap.specs.declared.taps.Records.TheVariants as records
 use Rattle.aud_node.specs.Cluster.{Cluster}
 use Rattle.aud_node.specs.NodeTap.{NodeTap}
 use Rattle.aud_node.specs.NodeTaps.{node_at}
@@ -16,8 +20,9 @@ use Rattle.aud_session_facts.specs.declared.place.RecordPlace.{RecordPlace}
 use Rattle.aud_session_facts.specs.Marks.{turn_marks}
 use Rattle.aud_session_facts.specs.Recoveries.{stays_at}
 use Rattle.aud_causes.specs.declared.cause.Cause.{Cause}
-use Rattle.aud_causes.specs.declared.cause.Cause.TheVariants.{NodeNotTapped, OpenNotRecorded}
+use Rattle.aud_causes.specs.declared.cause.Cause.TheVariants.{NodeNotTapped, OpenMissing, OpenNotRecorded}
 use Rattle.aud_causes.specs.Chain.{chain_causes}
+use Rattle.aud_causes.specs.Delivery.{cause_if, held}
 use Rattle.aud_causes.specs.Logs.{order_cause}
 use Rattle.aud_causes.specs.Names.{client_causes}
 
@@ -37,14 +42,29 @@ own_on c pid node =
 abbrev pub first_own : Cluster → Text → Option RecordPlace
 first_own c pid = option_and_then (own_on c pid) (slice_get (own_places c pid) 0)
 
--- the cause of a session that no node opened, where this is its first record on a node, if it has any
-abbrev pub opened_by : Option RecordPlace → Cause
-opened_by (Some first) = OpenNotRecorded first
-opened_by None = NodeNotTapped 0
+-- these are the records of a node's tap
+abbrev pub is_of_node : Records → Bool
+is_of_node (records.Stream recs) = false
+is_of_node (records.Node recs) = true
+is_of_node (records.Client recs) = false
+
+-- the tap is a node's
+abbrev pub is_node : Tap → Bool
+is_node tap = is_of_node tap.records
+
+-- a node is tapped
+abbrev pub open_missing : Cluster → Option Cause
+open_missing c = cause_if (list_any is_node c.taps) OpenMissing
+
+-- the causes of a session that no node opened, where this is its first record on a node, if it has any: no log has its
+-- `open`; or, where none has any record of it, a node is tapped, and the `open` alone is missing; or its node is not
+abbrev pub opened_by : Cluster → Option RecordPlace → List Cause
+opened_by c (Some first) = OpenNotRecorded first ∷ []
+opened_by c None = held (open_missing c ∷ Some (NodeNotTapped 0) ∷ [])
 
 -- the same of the session with this pid
-abbrev pub no_log_cause : Cluster → Text → Cause
-no_log_cause c pid = opened_by (first_own c pid)
+abbrev pub no_log_causes : Cluster → Text → List Cause
+no_log_causes c pid = opened_by c (first_own c pid)
 
 -- the causes of a break in the chain of the session's turns, where this is the place of its client's tap
 abbrev pub causes_of_turns : Cluster → Option ℕ → Text → List Cause
@@ -57,7 +77,7 @@ order_causes c unordered = flat_map (λ place. option_to_list (order_cause c pla
 -- the causes of a fault for which the session with this pid has no certificate, where this is the place of its client's
 -- tap, if it has one, and these records of its nodes are out of order; none of another fault
 abbrev pub AreRecordedCauses : Cluster → Option ℕ → Text → List RecordPlace → Fault → List Cause → Type 0
-AreRecordedCauses c client pid unordered fault.NoLog found = found ≡ no_log_cause c pid ∷ []
+AreRecordedCauses c client pid unordered fault.NoLog found = found ≡ no_log_causes c pid
 AreRecordedCauses c client pid unordered fault.Chain found = found ≡ causes_of_turns c client pid
 AreRecordedCauses c client pid unordered fault.Order found = found ≡ order_causes c unordered
 AreRecordedCauses c client pid unordered fault.Client found = found ≡ client_causes c (length (naming_places c.taps pid))

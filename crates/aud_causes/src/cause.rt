@@ -155,6 +155,8 @@ pub enum Cause {
     OpenNotRecorded {
         first: RecordPlace,
     },
+    /// A node is tapped, and no log has a record of the session.
+    OpenMissing,
     /// No node's log has the begin of this turn, nor its `break`.
     NodeNotTapped {
         turn: usize,

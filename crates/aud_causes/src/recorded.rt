@@ -1,6 +1,7 @@
 //! What a fault of the recording may come from: one for which the session has no certificate.
 ghost use Rattle.std.specs.Prelude.{◌≡◌, IfOk, map};
-ghost use Rattle.aud_causes.specs.Recorded.{AreRecordedCauses, causes_of_turns, first_own, no_log_cause, order_causes, stays_of_client};
+ghost use Rattle.std.specs.List.{list_any};
+ghost use Rattle.aud_causes.specs.Recorded.{AreRecordedCauses, causes_of_turns, first_own, is_node, no_log_causes, open_missing, order_causes, stays_of_client};
 
 use crate::cause::Cause;
 use crate::list::{held, push_cause};
@@ -11,6 +12,7 @@ use aud_cert::Fault;
 use aud_client::{Recording, Stay};
 use aud_node::Logs;
 use aud_session_facts::{RecordPlace, turn_marks};
+use aud_tap::{Records, Tap};
 use std::alloc::{AllocError, Global};
 
 /// The causes of such a fault of the session with this pid, whose one client's tap is at this place, if it has one,
@@ -27,7 +29,7 @@ pub(crate) fn recorded_causes(
         AreRecordedCauses recording.now client pid.now unordered.now fault.now found.items) }
 {
     match fault {
-        Fault::NoLog => held(alloc, &[Some(no_log_cause(recording.logs(), pid))]),
+        Fault::NoLog => no_log_causes(alloc, recording.logs(), pid),
         Fault::Chain => causes_of_turns(alloc, recording, client, pid),
         Fault::Order => order_causes(alloc, recording.logs(), unordered),
         Fault::Client => client_causes(alloc, recording, pid),
@@ -35,13 +37,47 @@ pub(crate) fn recorded_causes(
     }
 }
 
-/// The cause of a session that no node opened.
-fn no_log_cause(logs: &Logs<'_>, pid: &str) -> Cause
-    ensures { result ≡ no_log_cause logs.now pid.now }
+/// The causes of a session that no node opened. Where no log has a record of it, it costs the taps up to the first node's.
+fn no_log_causes(alloc: Global, logs: &Logs<'_>, pid: &str) -> Result<Vec<Cause>, AllocError>
+    ensures { IfOk result (λ found. found.items ≡ no_log_causes logs.now pid.now) }
 {
     match first_own(logs, pid) {
-        Some(first) => Cause::OpenNotRecorded { first },
-        None => Cause::NodeNotTapped { turn: 0 },
+        Some(first) => held(alloc, &[Some(Cause::OpenNotRecorded { first })]),
+        None => held(
+            alloc,
+            &[open_missing(logs), Some(Cause::NodeNotTapped { turn: 0 })],
+        ),
+    }
+}
+
+/// Where a node is tapped.
+fn open_missing(logs: &Logs<'_>) -> Option<Cause>
+    ensures { result ≡ open_missing logs.now }
+{
+    if !has_node(logs.taps()) {
+        return None;
+    }
+    Some(Cause::OpenMissing)
+}
+
+/// Whether one of the taps is a node's.
+fn has_node(taps: &[Tap]) -> bool
+    ensures { result ≡ list_any is_node taps.now }
+{
+    for tap in taps {
+        if is_node(tap) {
+            return true;
+        }
+    }
+    false
+}
+
+fn is_node(tap: &Tap) -> bool
+    ensures { result ≡ is_node tap.now }
+{
+    match tap.records {
+        Records::Node(_) => true,
+        _ => false,
     }
 }
 

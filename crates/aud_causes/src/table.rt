@@ -261,6 +261,13 @@ pub(crate) fn row_of(cause: Cause) -> Row
             figures: [Some(Name(first.node)), None, None],
             todo: "write an `open` when the session opens, unbuffered; look at how logs are rotated.",
         },
+        Cause::OpenMissing => Row {
+            id: "open-not-recorded",
+            records: Nothing,
+            why: "No log has a record of the session, though a node is tapped: its `open` may be missing.",
+            figures: [None; 3],
+            todo: "write an `open` when the session opens, unbuffered; look at how logs are rotated.",
+        },
         Cause::NodeNotTapped { turn } => Row {
             id: "node-not-tapped",
             records: Nothing,

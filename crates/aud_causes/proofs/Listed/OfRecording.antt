@@ -1,8 +1,7 @@
 -- The causes of a fault for which a session has no certificate have names of that fault's list.
 use Rattle.std.proofs.Common.{◌≡◌, ℕ, suc, zero, Bool, true, List, [], ◌∷◌, Option, Some, None, ◌++◌, ◌||◌, length, nat_eq, nat_le, nat_lt, not, refl, slice_get}
 use Rattle.std.specs.Prelude.{option_to_list}
-use Rattle.std.specs.Cmp.Derive.{both_true}
-use Rattle.std.specs.List.{list_all}
+use Rattle.std.specs.List.{list_all, list_any}
 use Rattle.aud_base.specs.Lists.{numbers_from}
 use Rattle.aud_tap.specs.declared.records.NodeRec.{NodeRec}
 use Rattle.aud_tap.specs.declared.records.NodeRec.TheVariants as rec
@@ -19,14 +18,14 @@ use Rattle.aud_cert.specs.declared.fault.Fault.TheVariants as fault
 use Rattle.aud_session_facts.specs.declared.marks.TurnMark.{TurnMark}
 use Rattle.aud_session_facts.specs.declared.place.RecordPlace.{RecordPlace}
 use Rattle.aud_causes.specs.declared.cause.Cause.{Cause}
-use Rattle.aud_causes.specs.declared.cause.Cause.TheVariants.{EntriesSkippedByNode, EntryTakenAgain, MissingBreak, NoClientTap, NodeNotTapped, RecoveredTwice, ReplyMissing, TurnNotStored}
+use Rattle.aud_causes.specs.declared.cause.Cause.TheVariants.{EntriesSkippedByNode, EntryTakenAgain, MissingBreak, NoClientTap, NodeNotTapped, OpenMissing, RecoveredTwice, ReplyMissing, TurnNotStored}
 use Rattle.aud_causes.specs.declared.turns.Unbroken.{Unbroken}
 use Rattle.aud_causes.specs.declared.twice.Twice.{Twice}
 use Rattle.aud_causes.specs.Chain.{chain_causes}
 use Rattle.aud_causes.specs.Cleared.{broke_by, cleared_after_break, cleared_at, cleared_by, cleared_in, cleared_on, first_cleared, place_on}
 use Rattle.aud_causes.specs.Logs.{first_cause, later_cause, order_cause, record_cause, recoveries, take_cause, taken_again, takes_cause, unknown}
 use Rattle.aud_causes.specs.Names.{client_causes, reply_missing, unnamed_from}
-use Rattle.aud_causes.specs.Recorded.{first_own, no_log_cause, opened_by, order_causes}
+use Rattle.aud_causes.specs.Recorded.{first_own, is_node, no_log_causes, open_missing, opened_by, order_causes}
 use Rattle.aud_causes.specs.Turns.{begins_of, breaks_of, ends_of, is_untapped, missing_break, missing_breaks, missing_by, missing_causes, not_tapped, recovery_after, unbroken_at}
 use Rattle.aud_causes.specs.Differences.{cause_and}
 use Rattle.aud_causes.specs.Twice.{causes_of_twice, is_as_often, is_so, recovered_twice, turn_not_stored, twice_at, twice_causes}
@@ -38,12 +37,13 @@ use Rattle.aud_causes.proofs.Listed.Each.{OfSome, is_listed, of_and, of_both, of
 abbrev in_no_log : Cause → Bool
 in_no_log = is_listed fault.NoLog
 
-opened_listed : (first : Option RecordPlace) → in_no_log (opened_by first) ≡ true
-opened_listed None = refl
-opened_listed (Some first) = refl
+opened_listed : (c : Cluster) (first : Option RecordPlace) → list_all in_no_log (opened_by c first) ≡ true
+opened_listed c (Some first) = refl
+opened_listed c None =
+    of_held in_no_log (open_missing c ∷ Some (NodeNotTapped 0) ∷ []) (of_if in_no_log (list_any is_node c.taps) OpenMissing refl, (refl, tt))
 
-pub no_log_listed : (c : Cluster) (pid : Text) → list_all in_no_log (no_log_cause c pid ∷ []) ≡ true
-no_log_listed c pid = both_true (opened_listed (first_own c pid)) refl
+pub no_log_listed : (c : Cluster) (pid : Text) → list_all in_no_log (no_log_causes c pid) ≡ true
+no_log_listed c pid = opened_listed c (first_own c pid)
 
 -- ---- CHAIN
 

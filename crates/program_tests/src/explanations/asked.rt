@@ -273,6 +273,9 @@ no one client, turns 0, delivery not judged
 refused recovery: got session Q, missed: not known
       32 c1  conn 4 asks N after o1
       33 c1  conn 4 reply, sid s2, pid Q
+cause open-not-recorded (fits): No log has a record of the session, though a node is tapped: its
+        `open` may be missing.
+do: write an `open` when the session opens, unbuffered; look at how logs are rotated.
 cause node-not-tapped (fits): No node's log has the begin of turn 0.
 do: tap each node, from its start.
 
@@ -280,7 +283,7 @@ sessions: 3, yes: 2, no: 1
   recording 1: NOLOG 1
   cause no-offset: 1
   cause node-not-tapped: 1
-  cause open-not-recorded: 1
+  cause open-not-recorded: 2
 sessions that no client named: 1
 sessions with a tail: 1, events in tails: 1
 recoveries asked for: 3, granted: 0, refused: 3

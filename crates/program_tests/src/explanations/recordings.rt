@@ -65,6 +65,9 @@ client c1, namespace /, connection 1, turns 0, delivery not judged
     line tap  record
        8 c1   conn 1 reply, sid s1, pid P  <- opened on no node
     client  8 reply  9 got 1
+cause open-not-recorded (fits): No log has a record of the session, though a node is tapped: its
+        `open` may be missing.
+do: write an `open` when the session opens, unbuffered; look at how logs are rotated.
 cause node-not-tapped (fits): No node's log has the begin of turn 0.
 do: tap each node, from its start.
 
