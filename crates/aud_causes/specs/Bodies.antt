@@ -1,17 +1,19 @@
 -- What came twice because a body of polling did.
-use Rattle.std.specs.Prelude.{ℕ, ◌-◌, Bool, true, false, ◌&&◌, List, [], ◌∷◌, length, Option, Some, None, nat_eq, nat_lt, slice_get, take}
+use Rattle.std.specs.Prelude.{ℕ, ◌-◌, Bool, true, false, not, ◌&&◌, List, [], ◌∷◌, length, Option, Some, None, if◌then◌else◌, nat_eq, nat_lt, slice_get, take}
 use Rattle.std.specs.Option.{option_and_then, option_or}
+use Rattle.std.specs.Str.{bytes_eq}
 use Rattle.aud_tap.specs.declared.records.ClientRec.{ClientRec}
 use Rattle.aud_tap.specs.declared.records.ClientRec.TheVariants.{Poll}
 use Rattle.aud_node.specs.Cluster.{Cluster}
 use Rattle.aud_node.specs.NodeTaps.{client_at}
+use Rattle.aud_node.specs.Stream.{Text}
 use Rattle.aud_client.specs.Received.{TranscriptSeen, transcript_at}
 use Rattle.aud_client.specs.StayPlaces.{PlacesSeen}
 use Rattle.aud_session_facts.specs.Recoveries.{stays_at}
 use Rattle.aud_shown.specs.declared.frame_place.FramePlace.{FramePlace}
 use Rattle.aud_shown.specs.FramePlaces.{frame_at}
 use Rattle.aud_causes.specs.declared.cause.Cause.{Cause}
-use Rattle.aud_causes.specs.declared.cause.Cause.TheVariants.{BodyCameTwice}
+use Rattle.aud_causes.specs.declared.cause.Cause.TheVariants.{BodyCameTwice, EqualBodies}
 use Rattle.aud_causes.specs.declared.facts.Facts.{Facts}
 use Rattle.aud_causes.specs.Delivery.{cause_if}
 
@@ -60,11 +62,40 @@ is_one_body c client (Some first) (Some last) =
     nat_eq first last && is_poll (option_and_then (λ (recs : List ClientRec). slice_get recs first) (client_at c client))
 is_one_body c client _ _ = false
 
+-- the text of the record with this number of the client's tap at this place, if that is a body of polling
+abbrev pub body_at : Cluster → ℕ → ℕ → Option Text
+body_at c client number = body_in (option_and_then (λ (recs : List ClientRec). slice_get recs number) (client_at c client))
+  where
+    body_in : Option ClientRec → Option Text
+    body_in (Some (Poll t)) = Some t
+    body_in _ = None
+
+-- both are there, and are the same
+abbrev pub are_same : Option Text → Option Text → Bool
+are_same (Some first) (Some again) = bytes_eq first again
+are_same _ _ = false
+
+-- these are two records of the client's tap at this place, which are bodies of polling of the same text
+abbrev pub are_equal_bodies : Cluster → ℕ → Option ℕ → Option ℕ → Bool
+are_equal_bodies c client (Some first) (Some again) = not (nat_eq first again) && are_same (body_at c client first) (body_at c client again)
+are_equal_bodies c client _ _ = false
+
+-- the two frames came in two bodies of polling of the same text
+abbrev pub equal_bodies : Cluster → ℕ → List ℕ → Facts → Option Cause
+equal_bodies c client numbers f =
+    cause_if
+    (are_equal_bodies c client (record_of c client numbers f.parted.first) (record_of c client numbers f.parted.again))
+    (EqualBodies f.parted.first f.parted.again)
+
 -- the two frames stand in two stays; and what came of the session from the first one on, up to the later stay, came in
 -- one body of polling
-abbrev pub body_twice : Cluster → ℕ → List ℕ → Facts → Option Cause
-body_twice c client numbers f =
+abbrev pub body_before : Cluster → ℕ → List ℕ → Facts → Option Cause
+body_before c client numbers f =
     cause_if
     (nat_lt f.earlier f.later
     && is_one_body c client (record_of c client numbers f.parted.first) (last_record (places_at c client) None (take f.later numbers)))
     (BodyCameTwice f.parted.first f.parted.again)
+
+-- of two frames of one stay, or of two
+abbrev pub body_twice : Cluster → ℕ → List ℕ → Facts → Option Cause
+body_twice c client numbers f = if nat_eq f.earlier f.later then equal_bodies c client numbers f else body_before c client numbers f

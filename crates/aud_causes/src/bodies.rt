@@ -1,18 +1,18 @@
 //! What came twice because a body of polling did.
 ghost use Rattle.std.specs.Prelude.{◌≡◌, None, slice_get};
 ghost use Rattle.std.specs.Option.{option_copied};
-ghost use Rattle.aud_causes.specs.Bodies.{body_twice, frames_there, is_one_body, is_poll, last_of, last_record, places_at, record_of, record_there};
+ghost use Rattle.aud_causes.specs.Bodies.{are_equal_bodies, are_same, body_at, body_before, body_twice, equal_bodies, frames_there, is_one_body, is_poll, last_of, last_record, places_at, record_of, record_there};
 
 use crate::cause::Cause;
 use crate::facts::Facts;
 use crate::list::front_of;
 use aud_client::{Recording, StayPlaces};
 use aud_shown::{FramePlace, frame_at};
-use aud_tap::ClientRec;
+use aud_tap::{ClientRec, Text};
 
-/// Where the two frames stand in two stays, and what came of the session from the first one on, up to the later stay,
-/// came in one body of polling. `numbers` are those of the session's stays in the client's tap at this place. It costs
-/// these stays.
+/// Where the two frames stand in one stay, and came in two bodies of polling of the same text; or where they stand in two
+/// stays, and what came of the session from the first one on, up to the later stay, came in one body of polling.
+/// `numbers` are those of the session's stays in the client's tap at this place. It costs these stays.
 pub(crate) fn body_twice(
     recording: &Recording<'_>,
     client: usize,
@@ -20,6 +20,87 @@ pub(crate) fn body_twice(
     facts: Facts,
 ) -> Option<Cause>
     ensures { result ≡ body_twice recording.now client numbers.now facts }
+{
+    if facts.earlier == facts.later {
+        return equal_bodies(recording, client, numbers, facts);
+    }
+    body_before(recording, client, numbers, facts)
+}
+
+/// Where the two frames came in two bodies of polling of the same text.
+fn equal_bodies(
+    recording: &Recording<'_>,
+    client: usize,
+    numbers: &[usize],
+    facts: Facts,
+) -> Option<Cause>
+    ensures { result ≡ equal_bodies recording.now client numbers.now facts }
+{
+    let first = record_of(recording, client, numbers, facts.parted.first);
+    let again = record_of(recording, client, numbers, facts.parted.again);
+    if !are_equal_bodies(recording, client, first, again) {
+        return None;
+    }
+    Some(Cause::EqualBodies {
+        first: facts.parted.first,
+        again: facts.parted.again,
+    })
+}
+
+/// Whether these are two records of the client's tap at this place, which are bodies of polling of the same text.
+fn are_equal_bodies(
+    recording: &Recording<'_>,
+    client: usize,
+    first: Option<usize>,
+    again: Option<usize>,
+) -> bool
+    ensures { result ≡ are_equal_bodies recording.now client first again }
+{
+    let Some(first) = first else {
+        return false;
+    };
+    let Some(again) = again else {
+        return false;
+    };
+    first != again
+        && are_same(
+            body_at(recording, client, first),
+            body_at(recording, client, again),
+        )
+}
+
+/// Whether both are there, and are the same.
+fn are_same(first: Option<&Text>, again: Option<&Text>) -> bool
+    ensures { result ≡ are_same (option_copied first.entry) (option_copied again.entry) }
+{
+    let Some(first) = first else {
+        return false;
+    };
+    match again {
+        Some(again) => first.as_str() == again.as_str(),
+        None => false,
+    }
+}
+
+/// The text of the record with this number of the client's tap at this place, if that is a body of polling.
+fn body_at<'a>(recording: &Recording<'a>, client: usize, number: usize) -> Option<&'a Text>
+    ensures { option_copied result ≡ body_at recording.now client number }
+{
+    match recording.logs().client(client)?.get(number) {
+        Some(ClientRec::Poll { t }) => Some(t),
+        _ => None,
+    }
+}
+
+/// Where the two frames stand in two stays, and what came of the session from the first one on, up to the later stay,
+/// came in one body of polling.
+fn body_before(
+    recording: &Recording<'_>,
+    client: usize,
+    numbers: &[usize],
+    facts: Facts,
+) -> Option<Cause>
+    ensures { result ≡ body_before recording.now client numbers.now facts }
 {
     if facts.later <= facts.earlier {
         return None;

@@ -31,6 +31,11 @@ pub enum Cause {
         first: usize,
         again: usize,
     },
+    /// What came twice came in two bodies of polling of the same text.
+    EqualBodies {
+        first: usize,
+        again: usize,
+    },
     /// The client asked to go on after an entry that was not due to the session.
     OffsetOfAnotherSession {
         stay: usize,

@@ -61,6 +61,13 @@ pub(crate) fn row_of(cause: Cause) -> Row
             figures: [None; 3],
             todo: "see whether the client refused that body, for its packets are too many or too long.",
         },
+        Cause::EqualBodies { first, again } => Row {
+            id: "body-came-twice",
+            records: Two(Got(first), Got(again)),
+            why: "The two bodies of polling in which the entry came are the same, byte for byte.",
+            figures: [None; 3],
+            todo: "see whether the client's tap wrote one body twice; else whether the server answered twice with it.",
+        },
         Cause::OffsetOfAnotherSession { stay, after } => Row {
             id: "offset-of-another-session",
             records: One(Ask(stay)),

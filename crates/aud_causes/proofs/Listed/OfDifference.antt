@@ -23,7 +23,7 @@ use Rattle.aud_causes.specs.declared.facts.Facts.{Facts}
 use Rattle.aud_causes.specs.declared.facts.Replay.{Replay}
 use Rattle.aud_causes.specs.AtBreak.{first_taken, is_by_rooms_at_break, rooms_at_break}
 use Rattle.aud_causes.specs.Behind.{behind, behind_at, first_behind, first_of, last_of, node_behind}
-use Rattle.aud_causes.specs.Bodies.{body_twice, is_one_body, last_record, places_at, record_of}
+use Rattle.aud_causes.specs.Bodies.{are_equal_bodies, body_before, body_twice, equal_bodies, is_one_body, last_record, places_at, record_of}
 use Rattle.aud_causes.specs.Delivery.{doubled_live, is_live, is_outside, is_replayed, is_taken_live, is_this, lost_live, sent_again, skipped_in_window, stale_offset, swapped_live}
 use Rattle.aud_causes.specs.Differences.{Case, difference_causes, doubled_in, extra_by, extra_in, frame_not_recorded, lost_in, other_session_after, other_session_before, swapped_causes}
 use Rattle.aud_causes.specs.Extra.{before_birth, change_missing, ended_in, extra_live, first_left, goes_on, is_unaddressed, last_turn, late_leave, log_ended_early, reached_at, rooms_excepted, rooms_named}
@@ -140,10 +140,14 @@ module _ (off : Text) where
 
   body_listed : (c : Cluster) (client : ℕ) (numbers : List ℕ) (f : Facts) → OfSome in_doubled (body_twice c client numbers f)
   body_listed c client numbers f =
-      of_if in_doubled
-      (nat_lt f.earlier f.later
-      && is_one_body c client (record_of c client numbers f.parted.first) (last_record (places_at c client) None (take f.later numbers)))
-      (cause.BodyCameTwice f.parted.first f.parted.again) refl
+      let first = record_of c client numbers f.parted.first in
+      let of_equal =
+          of_if in_doubled (are_equal_bodies c client first (record_of c client numbers f.parted.again)) (cause.EqualBodies f.parted.first f.parted.again) refl in
+      let of_before =
+          of_if in_doubled
+          (nat_lt f.earlier f.later && is_one_body c client first (last_record (places_at c client) None (take f.later numbers)))
+          (cause.BodyCameTwice f.parted.first f.parted.again) refl in
+      of_choice in_doubled (nat_eq f.earlier f.later) (equal_bodies c client numbers f) (body_before c client numbers f) of_equal of_before
 
   doubled_listed : (s : Case) (f : Facts) → list_all in_doubled (doubled_in s f) ≡ true
   doubled_listed s f =
