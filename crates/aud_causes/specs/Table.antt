@@ -67,7 +67,7 @@ row_of (BodyCameTwice first again) = row (codes "body-came-twice") (Got first �
     (codes "see whether the client refused that body, for its packets are too many or too long.")
 row_of (EqualBodies first again) = row (codes "body-came-twice") (Got first ∷ Got again ∷ [])
     (codes "The two bodies of polling in which the entry came are the same, byte for byte.") []
-    (codes "see whether the client's tap wrote one body twice; else whether the server answered twice with it.")
+    (codes "see whether the client's tap wrote one body twice; else whether the server sent it twice.")
 row_of (OffsetOfAnotherSession stay after) = row (codes "offset-of-another-session") (Ask stay ∷ [])
     (codes "The client asked to go on after entry #, which was not due to this session.") (Number after ∷ [])
     (codes "drop the offset when a new session opens.")

@@ -66,7 +66,7 @@ pub(crate) fn row_of(cause: Cause) -> Row
             records: Two(Got(first), Got(again)),
             why: "The two bodies of polling in which the entry came are the same, byte for byte.",
             figures: [None; 3],
-            todo: "see whether the client's tap wrote one body twice; else whether the server answered twice with it.",
+            todo: "see whether the client's tap wrote one body twice; else whether the server sent it twice.",
         },
         Cause::OffsetOfAnotherSession { stay, after } => Row {
             id: "offset-of-another-session",
