@@ -286,12 +286,7 @@ fn push_before(
 
 /// Whether the client's CONNECT stands in the stay with this number in front of its reply. It costs the stays before it,
 /// and the records between the one before it in its connection and namespace and the reply.
-fn is_asked_first(
-    recording: &Recording<'_>,
-    client: usize,
-    number: usize,
-    stay: &Stay<'_>,
-) -> bool
+fn is_asked_first(recording: &Recording<'_>, client: usize, number: usize, stay: &Stay<'_>) -> bool
     ensures { result ≡ is_asked_first recording.now client number stay.now }
 {
     let reply = reply_place(places_at(recording, client).get(number));

@@ -142,11 +142,11 @@ module _ (off : Text) where
   body_listed c client numbers f =
       let first = record_of c client numbers f.parted.first in
       let of_equal =
-          of_if in_doubled (are_equal_bodies c client first (record_of c client numbers f.parted.again)) (cause.EqualBodies f.parted.first f.parted.again) refl in
+      of_if in_doubled (are_equal_bodies c client first (record_of c client numbers f.parted.again)) (cause.EqualBodies f.parted.first f.parted.again) refl in
       let of_before =
-          of_if in_doubled
-          (nat_lt f.earlier f.later && is_one_body c client first (last_record (places_at c client) None (take f.later numbers)))
-          (cause.BodyCameTwice f.parted.first f.parted.again) refl in
+      of_if in_doubled
+      (nat_lt f.earlier f.later && is_one_body c client first (last_record (places_at c client) None (take f.later numbers)))
+      (cause.BodyCameTwice f.parted.first f.parted.again) refl in
       of_choice in_doubled (nat_eq f.earlier f.later) (equal_bodies c client numbers f) (body_before c client numbers f) of_equal of_before
 
   doubled_listed : (s : Case) (f : Facts) → list_all in_doubled (doubled_in s f) ≡ true
