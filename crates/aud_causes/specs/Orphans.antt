@@ -1,5 +1,5 @@
 -- What events may come from of which nobody knows the session.
-use Rattle.std.specs.Prelude.{ℕ, suc, Bool, true, false, not, ◌&&◌, ◌||◌, List, [], ◌∷◌, length, Option, Some, None, codes, drop, is_none, is_some, if◌then◌else◌, nat_eq, slice_get, take, unwrap_or}
+use Rattle.std.specs.Prelude.{ℕ, suc, ◌+◌, Bool, true, false, not, ◌&&◌, ◌||◌, List, [], ◌∷◌, length, Option, Some, None, codes, drop, is_none, is_some, if◌then◌else◌, nat_eq, slice_get, take, unwrap_or}
 use Rattle.std.specs.List.{starts_with}
 use Rattle.std.specs.Option.{option_and_then}
 use Rattle.std.specs.Str.{bytes_eq}
@@ -105,7 +105,7 @@ begins conn _ = false
 -- the number of the record that follows the stay's last one
 abbrev pub end_of : Option PlacesSeen → ℕ
 end_of None = 0
-end_of (Some p) = suc p.last
+end_of (Some p) = p.last + 1
 
 -- nothing says that the tap has the connection from its beginning: the stay is the tap's first one, in its first
 -- connection, and has no CONNECT of the client
