@@ -1,5 +1,6 @@
 -- What was due to the session of a made certificate.
 use Rattle.std.proofs.Common.{◌≡◌, ℕ, List, map, length, Option, Some, None, slice_get, option_map, refl, sym, ap, subst, ◌∙◌, true, true≢false}
+use Rattle.std.specs.List.{All}
 use Rattle.std.proofs.lemmas.List.Kept.{AllPairs-from_increasing}
 use Rattle.std.proofs.lemmas.Option.{none-some, same_Some}
 use Rattle.aud_tap.specs.declared.records.StreamRec.{StreamRec}
@@ -8,7 +9,7 @@ use Rattle.aud_node.specs.Stream.{Text}
 use Rattle.aud_cert.specs.Certificate.{CertificateSeen}
 use Rattle.aud_maker.specs.Made.{IsMade}
 use Rattle.aud_tap.specs.declared.records.ClientRec.{ClientRec}
-use Rattle.aud_client.specs.StaySeen.{StaySeen}
+use Rattle.aud_client.specs.StaySeen.{StaySeen, TellsAltered}
 use Rattle.aud_client.specs.Received.{TranscriptSeen, transcript_at, transcript_of, stays_naming}
 use Rattle.aud_client.specs.Replies.{is_naming, naming_places}
 use Rattle.aud_node.specs.NodeTaps.{client_at}
@@ -29,6 +30,18 @@ use Rattle.aud_session_facts.specs.Account.{IsAccount}
 -- what was due ascends
 pub due_ascends : (c : Cluster) (s : SessionLogs) → IsAscending (due_to c s)
 due_ascends c s = AllPairs-from_increasing _ (filter-ascends (is_turn_due c.stream s.who (map (slice_of c) s.turns)) 1 (length c.stream))
+
+-- the stays of a tap that name a session tell truly of their frames
+pub tells_there : (c : Cluster) → ((stream : List StreamRec) (recs : List ClientRec) (pid : Text) → All (TellsAltered stream) (stays_naming pid (transcript_of stream recs).stays))
+    → (pid : Text) (client : ℕ) (tap : TranscriptSeen) (stream : List StreamRec) (stays : List StaySeen)
+    → Some tap ≡ transcript_at c client → stream ≡ c.stream → stays ≡ stays_naming pid tap.stays → All (TellsAltered stream) stays
+tells_there c law pid client tap stream stays there of_c own = go (client_at c client) there
+  where
+    go : (o : Option (List ClientRec)) → Some tap ≡ option_map (transcript_of c.stream) o → All (TellsAltered stream) stays
+    go None is = absurd (none-some tap (sym is))
+    go (Some recs) is =
+        let its = own ∙ ap (λ (t : TranscriptSeen). stays_naming pid t.stays) (same_Some tap (transcript_of c.stream recs) is) in
+        subst (λ (s : List StreamRec). All (TellsAltered s) stays) (sym of_c) (subst (All (TellsAltered c.stream)) (sym its) (law c.stream recs pid))
 
 module _ (c : Cluster) (cert : CertificateSeen) (made : IsMade c cert.pid cert) where
   -- the session is the recording's

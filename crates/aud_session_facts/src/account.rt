@@ -1,7 +1,9 @@
 //! What a client received of a session, and what was due to it.
 ghost use Rattle.std.specs.Prelude.{◌≡◌, IfOk, MatchOption, Some, [], ◌∷◌, ℕ, map, slice_get};
 ghost use Rattle.aud_cert.specs.declared.fault.Fault.{Fault};
+ghost use Rattle.std.specs.List.{All};
 ghost use Rattle.aud_client.specs.Replies.{naming_places};
+ghost use Rattle.aud_client.specs.StaySeen.{TellsAltered};
 ghost use Rattle.aud_maker.specs.Faults.{HasMakeFault};
 ghost use Rattle.aud_maker.specs.Made.{IsMade};
 ghost use Rattle.aud_check.specs.Difference.{IsAscending};
@@ -12,7 +14,7 @@ ghost use Rattle.aud_session_facts.specs.Account.{IsAccount, IsAccountOf, IsFoun
 use crate::due::due_by_turns;
 use aud_cert::{Certificate, Fault};
 use aud_check::{Difference, Finding, first_finding, frames_in};
-use aud_client::{IndexedTranscript, Recording, Stay};
+use aud_client::{IndexedTranscript, Recording, Stay, stays_tell_altered};
 use aud_maker::{MakeFault, make};
 use aud_node::Stream;
 use std::alloc::{AllocError, Global};
@@ -113,6 +115,7 @@ fn made_account<'r, 'a>(
     let Some(tap) = recording.client(client) else {
         unreachable!()
     };
+    stays_tell_altered();
     let stays = tap.naming(alloc, cert.pid.as_str())?;
     let stream = recording.logs().stream();
     let found = found_in(alloc, stream, tap, stays.as_slice(), due.as_slice())?;
@@ -140,7 +143,8 @@ fn found_in(
     stays: &[&Stay<'_>],
     due: &[u64],
 ) -> Result<Option<Finding>, AllocError>
-    requires { IsAscending due.now }
+    requires altered { All (TellsAltered stream.now) (map (λ stay. stay.now) stays.now) }
+    requires ascending { IsAscending due.now }
     ensures { IfOk result (λ found. MatchOption found
         (IsReceived (by_stays stream.now tap.now (map (λ stay. stay.now) stays.now) due.now))
         (IsFirstFinding (by_stays stream.now tap.now (map (λ stay. stay.now) stays.now)
