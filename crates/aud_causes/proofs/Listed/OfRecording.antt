@@ -111,15 +111,15 @@ pub chain_listed : (c : Cluster) (pid : Text) (marks : List TurnMark) (stays : L
 chain_listed c pid marks stays =
     let as_often = is_as_often marks (recoveries stays) in
     let twice = twice_causes (begins_of marks) (ends_of marks) as_often marks in
-    of_both in_chain
-    (missing_causes (begins_of marks) (breaks_of marks) (ends_of marks) (recoveries stays))
-    (cleared_after_break c pid ++ twice)
+    let missing = missing_causes (begins_of marks) (breaks_of marks) (ends_of marks) (recoveries stays) in
+    let cleared = cleared_after_break c pid in
+    of_both in_chain (missing ++ cleared) twice
+    (of_both in_chain missing cleared
     (missing_listed (begins_of marks) (breaks_of marks) (ends_of marks) (recoveries stays))
-    (of_both in_chain (cleared_after_break c pid) twice
-    (cleared_listed c pid (own_places c pid))
+    (cleared_listed c pid (own_places c pid)))
     (of_each in_chain (λ m. causes_of_twice (ends_of marks) as_often (twice_at (begins_of marks) m))
     (λ m. twice_listed (ends_of marks) as_often (twice_at (begins_of marks) m))
-    marks))
+    marks)
 
 -- ---- ORDER
 

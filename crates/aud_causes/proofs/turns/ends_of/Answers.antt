@@ -7,7 +7,7 @@ use Rattle.aud_causes.proofs.turns.ends_of.Goals as goal
 pub loop-number-preserved : goal.loop-number-preserved
 loop-number-preserved c =
     let ended = c.loop-number.ended.items in
-    ended_more (turn_count 0 c.args.marks.now) c.args.marks.now c.loop-number.number ended c.note_turn.new.ended.items
+    ended_more (turn_count 0 c.args.marks.now) c.args.marks.now c.loop-number.number ended c.note_turn.new.turns.items
     (c.note_turn.ensures ∙ ap (λ turn. break_in turn ended) c.ended_by.ensures) c.loop-number.invariant
 
 pub returns : goal.returns
