@@ -36,7 +36,7 @@ candidates (fault.Doubled off) =
 candidates (fault.Swapped off) = codes "node-behind-break" ∷ codes "swapped-live" ∷ codes "recovery-not-recorded" ∷ []
 candidates (fault.Lost off) =
     codes "rooms-at-break" ∷ codes "skipped-in-window" ∷ codes "offset-of-another-session" ∷ codes "frame-not-recorded"
-    ∷ codes "lost-live" ∷ codes "join-missing" ∷ codes "leave-missing" ∷ codes "recovery-not-recorded" ∷ []
+    ∷ codes "lost-live" ∷ codes "leave-missing" ∷ codes "recovery-not-recorded" ∷ []
 candidates (fault.Window conn) = codes "no-offset" ∷ codes "unknown-offset" ∷ codes "stale-offset" ∷ codes "offset-of-another-session" ∷ []
 candidates (fault.Tail count) = []
 

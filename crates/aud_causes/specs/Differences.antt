@@ -19,8 +19,8 @@ use Rattle.aud_causes.specs.declared.facts.Facts.{Facts}
 use Rattle.aud_causes.specs.Facts.{facts_of}
 use Rattle.aud_causes.specs.Delivery.{cause_if, held, doubled_live, swapped_live, lost_live, sent_again, stale_offset, skipped_in_window}
 use Rattle.aud_causes.specs.Behind.{node_behind}
-use Rattle.aud_causes.specs.Extra.{log_ended_early, before_birth, late_leave, extra_live, change_missing, rooms_excepted, rooms_named}
-use Rattle.aud_causes.specs.Leavable.{join_missing, leave_missing_in}
+use Rattle.aud_causes.specs.Extra.{log_ended_early, before_birth, late_leave, extra_live, change_missing, rooms_named}
+use Rattle.aud_causes.specs.Leavable.{leave_missing_in}
 use Rattle.aud_causes.specs.Unrecorded.{recovery_not_recorded}
 use Rattle.aud_causes.specs.AtBreak.{first_taken, rooms_at_break}
 use Rattle.aud_causes.specs.Bodies.{body_twice}
@@ -98,14 +98,12 @@ doubled_in s f = doubled_causes s.c s.seen s.stays (body_twice s.c s.client s.nu
 abbrev pub swapped_causes : Cluster → List TurnSeen → Facts → List Cause
 swapped_causes c turns f = held (node_behind c turns f ∷ swapped_live f ∷ [])
 
--- of an entry that was lost, where this holds of the rooms at the break, of a `join`, and of a `leave`: the first; it was
--- left out of the replay; the offset was another session's; its frame was not recorded; it was left out while the client
--- was connected; the `join` is missing, or the `leave`
-abbrev pub lost_causes : Option Cause → List ℕ → Option Cause → Option Cause → Facts → List Cause
-lost_causes at_break due join leave f =
-    held
-    (at_break ∷ skipped_in_window f ∷ other_session_after due f ∷ frame_not_recorded due f ∷ lost_live f
-    ∷ join ∷ leave ∷ [])
+-- of an entry that was lost, where this holds of the rooms at the break, and of a `leave`: the first; it was left out of
+-- the replay; the offset was another session's; its frame was not recorded; it was left out while the client was
+-- connected; the `leave` is missing
+abbrev pub lost_causes : Option Cause → List ℕ → Option Cause → Facts → List Cause
+lost_causes at_break due leave f =
+    held (at_break ∷ skipped_in_window f ∷ other_session_after due f ∷ frame_not_recorded due f ∷ lost_live f ∷ leave ∷ [])
 
 -- the same of a session's entry
 abbrev pub lost_in : Case → Facts → List Cause
@@ -113,7 +111,6 @@ lost_in s f =
     lost_causes
     (rooms_at_break s.c s.who s.turns s.stays f)
     s.due
-    (join_missing (rooms_excepted (entry s.c.stream f.parted.position)) f)
     (leave_missing_in s.seen (rooms_named (entry s.c.stream f.parted.position)) f)
     f
 

@@ -82,11 +82,6 @@ abbrev pub rooms_named : Option StreamRec → List Text
 rooms_named (Some (Ev event)) = event.rooms
 rooms_named _ = []
 
--- the rooms that the entry excepts, if it is an event
-abbrev pub rooms_excepted : Option StreamRec → List Text
-rooms_excepted (Some (Ev event)) = event.except
-rooms_excepted _ = []
-
 -- the session held none of the entry's rooms when it reached the entry, and had left one of them
 abbrev pub late_leave : Cluster → Text → List Turn → ℕ → Option Reason → Option Cause
 late_leave c pid turns p (Some NoCommonRoom) =

@@ -1,4 +1,4 @@
--- A `join` or a `leave` that no log has, of an entry that was lost.
+-- A `leave` that no log has, of an entry that was lost.
 use Rattle.std.specs.Prelude.{ℕ, ◌==◌, Bool, not, ◌&&◌, List, [], length, Option, Some, None}
 use Rattle.std.specs.List.{list_any}
 use Rattle.std.specs.Str.{bytes_eq}
@@ -6,14 +6,9 @@ use Rattle.aud_node.specs.Stream.{Text}
 use Rattle.aud_cert.specs.Certificate.{TurnSeen}
 use Rattle.aud_session_facts.specs.Opened.{opened_in}
 use Rattle.aud_causes.specs.declared.cause.Cause.{Cause}
-use Rattle.aud_causes.specs.declared.cause.Cause.TheVariants.{JoinMissing, LeaveMissing}
+use Rattle.aud_causes.specs.declared.cause.Cause.TheVariants.{LeaveMissing}
 use Rattle.aud_causes.specs.declared.facts.Facts.{Facts}
 use Rattle.aud_causes.specs.Delivery.{cause_if, is_taken_live}
-
--- the entry was left out while the client was connected, and would not be due if the session had joined one of the rooms
--- that the entry excepts
-abbrev pub join_missing : List Text → Facts → Option Cause
-join_missing excepted f = cause_if (is_taken_live f && not (length excepted == 0)) (JoinMissing f.parted.again)
 
 -- these are rooms, and none of them is the session's own, which it holds for good
 abbrev pub are_leavable : Text → List Text → Bool

@@ -120,7 +120,7 @@ row_of (ExtraLive frame) = row (codes "extra-live") (Got frame ∷ [])
     (codes "The node sent the session an entry that was not addressed to it.") []
     (codes "look at how the node picks the sessions of a room.")
 row_of (JoinMissing frame) = row (codes "join-missing") (Got frame ∷ [])
-    (codes "What came would fit if the session had joined a room before: a `join` may be missing.") []
+    (codes "What came would fit if the session had joined a room of the entry before: a `join` may be missing.") []
     (codes "write a `join` at once, unbuffered; look at whether the session was in that room.")
 row_of (LeaveMissing frame) = row (codes "leave-missing") (Got frame ∷ [])
     (codes "What came would fit if the session had left a room before: a `leave` may be missing.") []

@@ -72,13 +72,12 @@ static DOUBLED: [&str; 6] = [
 
 static SWAPPED: [&str; 3] = ["node-behind-break", "swapped-live", "recovery-not-recorded"];
 
-static LOST: [&str; 8] = [
+static LOST: [&str; 7] = [
     "rooms-at-break",
     "skipped-in-window",
     "offset-of-another-session",
     "frame-not-recorded",
     "lost-live",
-    "join-missing",
     "leave-missing",
     "recovery-not-recorded",
 ];

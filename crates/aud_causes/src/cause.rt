@@ -117,7 +117,7 @@ pub enum Cause {
     ExtraLive {
         frame: usize,
     },
-    /// What came would fit if the session had joined a room of the entry before, or one that it excepts.
+    /// The entry would be due if the session had joined one of its rooms before.
     JoinMissing {
         frame: usize,
     },

@@ -10,11 +10,10 @@ use crate::behind::node_behind;
 use crate::bodies::body_twice;
 use crate::cause::Cause;
 use crate::extra::{
-    before_birth, change_missing, extra_live, late_leave, log_ended_early, rooms_excepted,
-    rooms_named,
+    before_birth, change_missing, extra_live, late_leave, log_ended_early, rooms_named,
 };
 use crate::facts::{Facts, facts_of};
-use crate::leavable::{join_missing, leave_missing_in};
+use crate::leavable::leave_missing_in;
 use crate::list::{held, push_cause};
 use crate::live::{
     doubled_live, lost_live, sent_again, skipped_in_window, stale_offset, swapped_live,
@@ -146,16 +145,15 @@ fn swapped_causes(
     )
 }
 
-/// Those of an entry that was lost, where this holds of the rooms at the break, of a `join`, and of a `leave`.
+/// Those of an entry that was lost, where this holds of the rooms at the break, and of a `leave`.
 fn lost_causes(
     alloc: Global,
     at_break: Option<Cause>,
     due: &[u64],
-    join: Option<Cause>,
     leave: Option<Cause>,
     facts: Facts,
 ) -> Result<Vec<Cause>, AllocError>
-    ensures { IfOk result (λ found. found.items ≡ lost_causes at_break due.now join leave facts) }
+    ensures { IfOk result (λ found. found.items ≡ lost_causes at_break due.now leave facts) }
 {
     held(
         alloc,
@@ -165,7 +163,6 @@ fn lost_causes(
             other_session_after(due, facts),
             frame_not_recorded(due, facts),
             lost_live(facts),
-            join,
             leave,
         ],
     )
@@ -186,10 +183,9 @@ fn lost_of(
 {
     let stays = account.stays.as_slice();
     let at_break = rooms_at_break(alloc, recording, &account.cert, stays, facts)?;
-    let entry = recording.logs().stream().entry(facts.parted.position);
-    let join = join_missing(rooms_excepted(entry), facts);
-    let leave = leave_missing_in(account.cert.turns.as_slice(), rooms_named(entry), facts);
-    lost_causes(alloc, at_break, account.due.as_slice(), join, leave, facts)
+    let rooms = rooms_named(recording.logs().stream().entry(facts.parted.position));
+    let leave = leave_missing_in(account.cert.turns.as_slice(), rooms, facts);
+    lost_causes(alloc, at_break, account.due.as_slice(), leave, facts)
 }
 
 /// Those of an entry that was not due, where this holds of the rooms at the break.

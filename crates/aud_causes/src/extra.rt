@@ -3,7 +3,7 @@ ghost use Rattle.std.specs.Prelude.{◌≡◌, map, option_map};
 ghost use Rattle.std.specs.Option.{option_copied};
 ghost use Rattle.aud_cert.specs.Certificate.{turn_at};
 ghost use Rattle.aud_session_facts.specs.NotDue.{reason_of};
-ghost use Rattle.aud_causes.specs.Extra.{before_birth, change_missing, ends_turn, extra_live, first_left, goes_on, is_unaddressed, late_leave, left_before, log_ended_early, reached_at, rooms_excepted, rooms_named};
+ghost use Rattle.aud_causes.specs.Extra.{before_birth, change_missing, ends_turn, extra_live, first_left, goes_on, is_unaddressed, late_leave, left_before, log_ended_early, reached_at, rooms_named};
 
 use crate::behind::{first_of, last_of};
 use crate::cause::Cause;
@@ -118,16 +118,6 @@ pub(crate) fn rooms_named(entry: Option<&StreamRec>) -> &[Text]
 {
     match entry {
         Some(StreamRec::Ev(event)) => event.rooms.as_slice(),
-        _ => &[],
-    }
-}
-
-/// The rooms whose members don't get the entry, if it is an event.
-pub(crate) fn rooms_excepted(entry: Option<&StreamRec>) -> &[Text]
-    ensures { result.now ≡ rooms_excepted (option_copied entry.entry) }
-{
-    match entry {
-        Some(StreamRec::Ev(event)) => event.except.as_slice(),
         _ => &[],
     }
 }

@@ -1,7 +1,7 @@
-//! A `join` or a `leave` that no log has, of an entry that was lost.
+//! A `leave` that no log has, of an entry that was lost.
 ghost use Rattle.std.specs.Prelude.{◌≡◌};
 ghost use Rattle.aud_session_facts.specs.Opened.{opened_in};
-ghost use Rattle.aud_causes.specs.Leavable.{are_leavable, join_missing, leave_missing, leave_missing_in, own_room};
+ghost use Rattle.aud_causes.specs.Leavable.{are_leavable, leave_missing, leave_missing_in, own_room};
 
 use crate::cause::Cause;
 use crate::facts::Facts;
@@ -9,19 +9,6 @@ use crate::live::is_taken_live;
 use aud_cert::Turn;
 use aud_session_facts::opened_in;
 use aud_tap::Text;
-
-/// Where the entry was left out while the client was connected, and would not be due if the session had joined one of the
-/// rooms that the entry excepts.
-pub(crate) fn join_missing(excepted: &[Text], facts: Facts) -> Option<Cause>
-    ensures { result ≡ join_missing excepted.now facts }
-{
-    if !is_taken_live(facts) || excepted.is_empty() {
-        return None;
-    }
-    Some(Cause::JoinMissing {
-        frame: facts.parted.again,
-    })
-}
 
 /// Where the entry was left out while the client was connected, and would not be due if the session of these turns had
 /// left the rooms that the entry is for.

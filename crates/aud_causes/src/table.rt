@@ -190,7 +190,7 @@ pub(crate) fn row_of(cause: Cause) -> Row
         Cause::JoinMissing { frame } => Row {
             id: "join-missing",
             records: One(Got(frame)),
-            why: "What came would fit if the session had joined a room before: a `join` may be missing.",
+            why: "What came would fit if the session had joined a room of the entry before: a `join` may be missing.",
             figures: [None; 3],
             todo: "write a `join` at once, unbuffered; look at whether the session was in that room.",
         },

@@ -1,5 +1,5 @@
 -- The causes of a difference between what was received and what was due have names of the fault's list.
-use Rattle.std.proofs.Common.{◌≡◌, ◌-◌, ◌==◌, ◌&&◌, ◌++◌, ℕ, Bool, true, List, [], ◌∷◌, length, Option, Some, None, map, option_to_list, nat_eq, nat_le, nat_lt, not, refl, slice_get, take}
+use Rattle.std.proofs.Common.{◌≡◌, ◌-◌, ◌&&◌, ◌++◌, ℕ, Bool, true, List, [], ◌∷◌, length, Option, Some, None, map, option_to_list, nat_eq, nat_le, nat_lt, not, refl, slice_get, take}
 use Rattle.std.specs.List.{list_all}
 use Rattle.std.specs.Option.{option_and_then, option_map, option_or}
 use Rattle.aud_node.specs.Cluster.{Cluster}
@@ -26,9 +26,9 @@ use Rattle.aud_causes.specs.Behind.{behind, behind_at, first_behind, first_of, l
 use Rattle.aud_causes.specs.Bodies.{are_equal_bodies, body_before, body_twice, equal_bodies, is_one_body, last_record, places_at, record_of}
 use Rattle.aud_causes.specs.Delivery.{doubled_live, is_live, is_outside, is_replayed, is_taken_live, is_this, lost_live, sent_again, skipped_in_window, stale_offset, swapped_live}
 use Rattle.aud_causes.specs.Differences.{Case, difference_causes, doubled_in, extra_by, extra_in, frame_not_recorded, lost_in, other_session_after, other_session_before, swapped_causes}
-use Rattle.aud_causes.specs.Extra.{before_birth, change_missing, ended_in, extra_live, first_left, goes_on, is_unaddressed, last_turn, late_leave, log_ended_early, reached_at, rooms_excepted, rooms_named}
+use Rattle.aud_causes.specs.Extra.{before_birth, change_missing, ended_in, extra_live, first_left, goes_on, is_unaddressed, last_turn, late_leave, log_ended_early, reached_at, rooms_named}
 use Rattle.aud_causes.specs.Facts.{facts_of}
-use Rattle.aud_causes.specs.Leavable.{are_leavable, join_missing, leave_missing_in, own_room}
+use Rattle.aud_causes.specs.Leavable.{are_leavable, leave_missing_in, own_room}
 use Rattle.aud_causes.specs.Logs.{recoveries}
 use Rattle.aud_causes.specs.Unrecorded.{past_turns, recovery_not_recorded}
 use Rattle.aud_causes.proofs.Listed.Each.{OfSome, is_listed, of_both, of_choice, of_held, of_if, of_list, of_map, of_test, of_then}
@@ -193,9 +193,6 @@ module _ (off : Text) where
   not_recorded_listed due f =
       of_test in_lost (λ after. nat_le f.parted.position after && has_position due after) (cause.FrameNotRecorded f.later) (λ after. refl) f.asked
 
-  join_listed : (excepted : List Text) (f : Facts) → OfSome in_lost (join_missing excepted f)
-  join_listed excepted f = of_if in_lost (is_taken_live f && not (length excepted == 0)) (cause.JoinMissing f.parted.again) refl
-
   leave_listed : (turns : List TurnSeen) (rooms : List Text) (f : Facts) → OfSome in_lost (leave_missing_in turns rooms f)
   leave_listed turns rooms f =
       of_if in_lost (is_taken_live f && are_leavable (own_room (opened_in turns)) rooms) (cause.LeaveMissing f.parted.again) refl
@@ -203,15 +200,14 @@ module _ (off : Text) where
   lost_listed : (s : Case) (f : Facts) → list_all in_lost (lost_in s f) ≡ true
   lost_listed s f =
       let rooms = rooms_named (entry s.c.stream f.parted.position) in
-      let excepted = rooms_excepted (entry s.c.stream f.parted.position) in
       let of_rooms = rooms_listed in_lost (λ stay after low. refl) s.c s.who s.turns s.stays f in
       let of_other = other_after_listed s.due f in
       let of_frame = not_recorded_listed s.due f in
       let of_live = of_if in_lost (is_taken_live f) (cause.LostLive f.parted.again) refl in
       of_held in_lost
       (rooms_at_break s.c s.who s.turns s.stays f ∷ skipped_in_window f ∷ other_session_after s.due f
-      ∷ frame_not_recorded s.due f ∷ lost_live f ∷ join_missing excepted f ∷ leave_missing_in s.seen rooms f ∷ [])
-      (of_rooms, (skipped_listed f, (of_other, (of_frame, (of_live, (join_listed excepted f, (leave_listed s.seen rooms f, tt)))))))
+      ∷ frame_not_recorded s.due f ∷ lost_live f ∷ leave_missing_in s.seen rooms f ∷ [])
+      (of_rooms, (skipped_listed f, (of_other, (of_frame, (of_live, (leave_listed s.seen rooms f, tt))))))
 
 -- ---- of a difference, in the list of its fault
 

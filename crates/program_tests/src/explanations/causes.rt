@@ -51,7 +51,7 @@ static FAULTS: [&str; 13] = [
     r#"explain --json --pid p1
 1 1 c1@1 j1:r e:a:r e:b drop1 t1 t1
 -> Ok(SomeNo)
-*"causes":[{"id":"lost-live",*"of":"fault","of_line":null,"state":"fits","sure":false,*},{"id":"leave-missing",*"of":"fault","of_line":null,"state":"fits","sure":false,*}],"class":*"fault":"LOST",*"refused":[],"refuted":["rooms-at-break","skipped-in-window","offset-of-another-session","frame-not-recorded","join-missing","recovery-not-recorded"],"tail":*"#,
+*"causes":[{"id":"lost-live",*"of":"fault","of_line":null,"state":"fits","sure":false,*},{"id":"leave-missing",*"of":"fault","of_line":null,"state":"fits","sure":false,*}],"class":*"fault":"LOST",*"refused":[],"refuted":["rooms-at-break","skipped-in-window","offset-of-another-session","frame-not-recorded","recovery-not-recorded"],"tail":*"#,
     r#"explain --json --pid p1
 2 1 c1@1 e:a t1 x1 e:b t2 t2 o1@2
 -> Ok(SomeNo)

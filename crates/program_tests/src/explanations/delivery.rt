@@ -296,8 +296,8 @@ client c1, namespace /, connection 1, turns 1, got 1, due 0, differs at frame 1
     client  10 reply  11 got 1
 cause extra-live (fits, line 11): The node sent the session an entry that was not addressed to it.
 do: look at how the node picks the sessions of a room.
-cause join-missing (fits, line 11): What came would fit if the session had joined a room before: a
-        `join` may be missing.
+cause join-missing (fits, line 11): What came would fit if the session had joined a room of the
+        entry before: a `join` may be missing.
 do: write a `join` at once, unbuffered; look at whether the session was in that room.
 
 sessions: *"#,

@@ -102,8 +102,8 @@ client c1, namespace /, connection 1, turns 2, got 2, due 3, differs at frame 2
 cause late-leave (fits, line 21): The session had left a room of the entry before it reached the
         entry.
 do: send an entry by the rooms that the session holds when the node takes it.
-cause join-missing (fits, line 37): What came would fit if the session had joined a room before: a
-        `join` may be missing.
+cause join-missing (fits, line 37): What came would fit if the session had joined a room of the
+        entry before: a `join` may be missing.
 do: write a `join` at once, unbuffered; look at whether the session was in that room.
 
 sessions: *"#,
