@@ -1,4 +1,4 @@
-use Rattle.std.proofs.Common.{◌≡◌, ◌∙◌, ◌++◌, ap, map, option_to_list}
+use Rattle.std.proofs.Common.{◌∙◌, ◌++◌, ap, map, option_to_list}
 use Rattle.aud_session_facts.specs.declared.account.Account.{Account}
 use Rattle.aud_causes.specs.Facts.{facts_of}
 use Rattle.aud_causes.specs.Unrecorded.{recovery_not_recorded}
