@@ -1,9 +1,9 @@
 -- Each cause has a name of the table by which a summary counts them.
-use Rattle.std.proofs.Common.{◌≡◌, true, refl}
+use Rattle.std.proofs.Common.{◌≡◌, true, Some, None, refl}
 use Rattle.std.specs.List.{list_any}
 use Rattle.std.specs.Str.{bytes_eq}
 use Rattle.aud_causes.specs.declared.cause.Cause.{Cause}
-use Rattle.aud_causes.specs.declared.cause.Cause.TheVariants.{NodeBehindBreak}
+use Rattle.aud_causes.specs.declared.cause.Cause.TheVariants.{MissingBreak, NodeBehindBreak}
 use Rattle.aud_causes.specs.Words.{id_text}
 use Rattle.aud_summary.specs.Causes.{cause_names}
 
@@ -11,4 +11,6 @@ use Rattle.aud_summary.specs.Causes.{cause_names}
 pub named_in_summary : (cause : Cause) → list_any (bytes_eq (id_text cause)) cause_names ≡ true
 unfolding cause_names
 named_in_summary (NodeBehindBreak broke back high low) = refl
+named_in_summary (MissingBreak turn begin back (Some stay)) = refl
+named_in_summary (MissingBreak turn begin back None) = refl
 named_in_summary _ = refl

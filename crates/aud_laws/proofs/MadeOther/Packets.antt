@@ -1,5 +1,5 @@
 -- The packets of stays are the connection's, and what such packets tell over two streams that are alike for them.
-use Rattle.std.proofs.Common.{◌≡◌, cond, ℕ, List, [], ◌∷◌, ◌++◌, map, flat_map, Option, Some, None, refl, ap, ◌∙◌, bytes_eq}
+use Rattle.std.proofs.Common.{◌≡◌, cond, ℕ, Bool, not, ◌||◌, List, [], ◌∷◌, ◌++◌, map, flat_map, Option, Some, None, refl, ap, ◌∙◌, bytes_eq}
 use Rattle.std.specs.List.{All, cons_option}
 use Rattle.std.proofs.lemmas.Bool.{cond_both}
 use Rattle.std.proofs.lemmas.List.Elements.{All-head, All-tail, All-nil, All-cons, All-append}
@@ -9,7 +9,8 @@ use Rattle.aud_node.specs.Stream.{Text, entry}
 use Rattle.aud_client.specs.TapPackets.{TapPacket, Connection, tap_packets}
 use Rattle.aud_client.specs.Replies.{reply_names}
 use Rattle.aud_client.specs.Stays.{namespace, in_namespace, goes_on, whole_stay, last_stay, stay_after, stay_at, begins_stay, stays_from, stays}
-use Rattle.aud_client.specs.StaySeen.{FrameSeen, frame_of, frames_of, stay_of, namespace_of, reply_of, asked_of}
+use Rattle.aud_client.specs.Entries.{has_altered, is_of}
+use Rattle.aud_client.specs.StaySeen.{FrameSeen, StaySeen, frame_of, frames_of, stay_of, namespace_of, reply_of, asked_of}
 use Rattle.aud_client.specs.Received.{connection_packets, stays_of, tap_stays, frames_at, received_from, received_list}
 
 -- ---- each packet of a stay is one of the connection's
@@ -72,9 +73,27 @@ module _ (stream other : List StreamRec) where
       ap (λ f. cons_option f (frames_of other ps)) (All-head IsSeenAlike p ps all).frame_is
       ∙ ap (cons_option (frame_of stream p)) (frames-same ps (All-tail IsSeenAlike p ps all))
 
+  -- whether one of the frames isn't its entry stays, with a frame more
+  altered-one : (o : Option FrameSeen) (fs : List FrameSeen) → ((frame : FrameSeen) → o ≡ Some frame → HasSameEntry frame)
+      → has_altered other fs ≡ has_altered stream fs → has_altered other (cons_option o fs) ≡ has_altered stream (cons_option o fs)
+  altered-one None fs same rest = rest
+  altered-one (Some frame) fs same rest =
+      ap (λ e. not (is_of frame e) || has_altered other fs) (same frame refl)
+      ∙ ap (λ b. not (is_of frame (entry stream frame.position)) || b) rest
+
+  altered-same : (packets : List TapPacket) → All IsSeenAlike packets → has_altered other (frames_of stream packets) ≡ has_altered stream (frames_of stream packets)
+  altered-same [] all = refl
+  altered-same (p ∷ ps) all =
+      altered-one (frame_of stream p) (frames_of stream ps) (All-head IsSeenAlike p ps all).entry_is (altered-same ps (All-tail IsSeenAlike p ps all))
+
+  abbrev told : ℕ → List TapPacket → List FrameSeen → Bool → StaySeen
+  told c stay frames altered =
+      record { c = c; nsp = namespace_of stay; reply = reply_of stay; asked = asked_of stay; frames = frames; altered = altered }
+
   stay-same : (c : ℕ) (stay : List TapPacket) → All IsSeenAlike stay → stay_of other c stay ≡ stay_of stream c stay
   stay-same c stay all =
-      ap (λ frames. record { c = c; nsp = namespace_of stay; reply = reply_of stay; asked = asked_of stay; frames = frames }) (frames-same stay all)
+      ap (λ fs. told c stay fs (has_altered other fs)) (frames-same stay all)
+      ∙ ap (told c stay (frames_of stream stay)) (altered-same stay all)
 
   each-same : (c : ℕ) (ss : List (List TapPacket)) → All (All IsSeenAlike) ss → map (stay_of other c) ss ≡ map (stay_of stream c) ss
   each-same c [] all = refl
