@@ -10,8 +10,8 @@ use Rattle.aud_node.specs.Stream.{Text}
 use Rattle.aud_client.specs.Received.{TranscriptSeen, transcript_at}
 use Rattle.aud_client.specs.StayPlaces.{PlacesSeen}
 use Rattle.aud_session_facts.specs.Recoveries.{stays_at}
-use Rattle.aud_shown.specs.declared.frame_place.FramePlace.{FramePlace}
-use Rattle.aud_shown.specs.FramePlaces.{frame_at}
+use Rattle.aud_session_facts.specs.declared.shown.frame_place.FramePlace.{FramePlace}
+use Rattle.aud_session_facts.specs.FramePlaces.{frame_at}
 use Rattle.aud_causes.specs.declared.cause.Cause.{Cause}
 use Rattle.aud_causes.specs.declared.cause.Cause.TheVariants.{BodyCameTwice, EqualBodies}
 use Rattle.aud_causes.specs.declared.facts.Facts.{Facts}

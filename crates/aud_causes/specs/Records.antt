@@ -9,8 +9,8 @@ use Rattle.aud_rows.specs.declared.client_places.ClientPlaces.{ClientPlaces}
 use Rattle.aud_rows.specs.Rows.{node_row}
 use Rattle.aud_rows.specs.StayRows.{ask_row, first_row, frame_row, reply_row, stays_at}
 use Rattle.aud_rows.specs.EndRows.{bad_row}
-use Rattle.aud_shown.specs.declared.frame_place.FramePlace.{FramePlace}
-use Rattle.aud_shown.specs.FramePlaces.{frame_at}
+use Rattle.aud_session_facts.specs.declared.shown.frame_place.FramePlace.{FramePlace}
+use Rattle.aud_session_facts.specs.FramePlaces.{frame_at}
 use Rattle.aud_causes.specs.declared.record_at.RecordAt.{RecordAt}
 use Rattle.aud_causes.specs.declared.record_at.RecordAt.TheVariants.{Node, Got, Ask, Reply, First, Bad}
 

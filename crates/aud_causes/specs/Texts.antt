@@ -8,8 +8,8 @@ use Rattle.aud_node.specs.Stream.{Text, entry}
 use Rattle.aud_client.specs.StaySeen.{FrameSeen, StaySeen}
 use Rattle.aud_session_facts.specs.Recoveries.{stays_at}
 use Rattle.aud_check.specs.declared.content.Part.TheVariants as part
-use Rattle.aud_shown.specs.declared.frame_place.FramePlace.{FramePlace}
-use Rattle.aud_shown.specs.FramePlaces.{frame_at, frames_of}
+use Rattle.aud_session_facts.specs.declared.shown.frame_place.FramePlace.{FramePlace}
+use Rattle.aud_session_facts.specs.FramePlaces.{frame_at, frames_of}
 use Rattle.aud_causes.specs.declared.cause.Cause.{Cause}
 use Rattle.aud_causes.specs.declared.cause.Cause.TheVariants.{AnotherEncoder, Altered}
 use Rattle.aud_causes.specs.declared.texts.Apart.{Apart}

@@ -7,7 +7,7 @@ use crate::cause::Cause;
 use crate::facts::Facts;
 use crate::list::front_of;
 use aud_client::{Recording, StayPlaces};
-use aud_shown::{FramePlace, frame_at};
+use aud_session_facts::{FramePlace, frame_at};
 use aud_tap::{ClientRec, Text};
 
 /// Where the two frames stand in one stay, and came in two bodies of polling of the same text; or where they stand in two

@@ -4,13 +4,13 @@ ghost use Rattle.std.specs.Option.{option_and_then, option_copied};
 ghost use Rattle.aud_rows.specs.ClientPlaces.{AreOf};
 ghost use Rattle.aud_rows.specs.Seen.{row_seen};
 ghost use Rattle.aud_rows.specs.StayRows.{stays_at};
-ghost use Rattle.aud_shown.specs.FramePlaces.{frame_at};
+ghost use Rattle.aud_session_facts.specs.FramePlaces.{frame_at};
 ghost use Rattle.aud_causes.specs.Records.{client_row, line_at, line_of, lines_at, node_row_of, place_of};
 
 use crate::record_at::RecordAt;
 use aud_client::{IndexedTranscript, Recording, Stay};
 use aud_rows::{ClientPlaces, Role, Row, Sheet};
-use aud_shown::{FramePlace, frame_at};
+use aud_session_facts::{FramePlace, frame_at};
 use std::alloc::{AllocError, Global};
 
 /// The lines of these records, of those that are known.

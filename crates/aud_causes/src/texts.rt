@@ -9,7 +9,7 @@ use crate::lines::{frame_in, stays_of};
 use aud_check::Part;
 use aud_client::{Frame, Recording, Stay};
 use aud_node::Stream;
-use aud_shown::FramePlace;
+use aud_session_facts::FramePlace;
 use aud_tap::StreamRec;
 use std::alloc::AllocError;
 

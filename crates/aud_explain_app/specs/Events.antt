@@ -8,7 +8,7 @@ use Rattle.aud_explanation.specs.declared.event.ClientEvent.{ClientEvent}
 use Rattle.aud_input.specs.TapLines.{TapLines}
 use Rattle.aud_session_facts.specs.declared.asked.Recovery.{Recovery}
 use Rattle.aud_rows.specs.declared.client_places.ClientPlaces.{ClientPlaces}
-use Rattle.aud_shown.specs.ShowsDifference.{AreNumbersOf}
+use Rattle.aud_session_facts.specs.ShowsDifference.{AreNumbersOf}
 use Rattle.aud_timeline.specs.ClientEvents.{client_events}
 
 -- the place of the tap, if there is one

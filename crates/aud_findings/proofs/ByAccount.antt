@@ -23,7 +23,7 @@ use Rattle.aud_check.specs.Difference.{IsAscending, IsDifference}
 use Rattle.aud_check.specs.Window.{positions_received}
 use Rattle.aud_input.specs.TapLines.{TapLines}
 use Rattle.aud_rows.specs.Seen.{RowSeen}
-use Rattle.aud_shown.specs.ShowsDifference.{AreNumbersOf}
+use Rattle.aud_session_facts.specs.ShowsDifference.{AreNumbersOf}
 use Rattle.aud_verdict.specs.Session.{SessionLogs, own_stays, due_to}
 use Rattle.aud_findings.specs.Also.{AreAllOf, AreAlso, AreTailAlso, OthersSeen, entry_lines, is_also, lines_at, no_others, tail_others, told_of}
 use Rattle.aud_findings.specs.Received.{frame_of, tail_positions}

@@ -22,15 +22,15 @@ use Rattle.aud_check.specs.Window.{positions_received}
 use Rattle.aud_input.specs.TapLines.{TapLines}
 use Rattle.aud_rows.specs.declared.row.Row.{Row}
 use Rattle.aud_rows.specs.Seen.{RowSeen, row_seen}
-use Rattle.aud_shown.specs.declared.session.ShownSession.{ShownSession}
-use Rattle.aud_shown.specs.ContentRows.{altered_rows}
-use Rattle.aud_shown.specs.DifferenceRows.{difference_rows}
-use Rattle.aud_shown.specs.WindowRows.{window_rows}
-use Rattle.aud_shown.specs.SessionRows.{session_of}
-use Rattle.aud_shown.specs.ShowsAltered.{ShowsAltered}
-use Rattle.aud_shown.specs.ShowsDifference.{ShowsDifference}
-use Rattle.aud_shown.specs.ShowsWindow.{ShowsWindow}
-use Rattle.aud_shown.proofs.Shows.{shows, shows-altered, shows-window}
+use Rattle.aud_session_facts.specs.declared.shown.session.ShownSession.{ShownSession}
+use Rattle.aud_session_facts.specs.ContentRows.{altered_rows}
+use Rattle.aud_session_facts.specs.DifferenceRows.{difference_rows}
+use Rattle.aud_session_facts.specs.WindowRows.{window_rows}
+use Rattle.aud_session_facts.specs.SessionRows.{session_of}
+use Rattle.aud_session_facts.specs.ShowsAltered.{ShowsAltered}
+use Rattle.aud_session_facts.specs.ShowsDifference.{ShowsDifference}
+use Rattle.aud_session_facts.specs.ShowsWindow.{ShowsWindow}
+use Rattle.aud_session_facts.proofs.Shows.{shows, shows-altered, shows-window}
 use Rattle.aud_verdict.specs.Session.{own_stays, due_to}
 use Rattle.aud_findings.specs.Evidence.{IsOfSession, ShowsOr, ShowsTold, TellsNone}
 use Rattle.aud_findings.specs.ShowsFound.{ShowsDelivery, ShowsFound}

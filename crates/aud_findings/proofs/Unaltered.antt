@@ -6,7 +6,7 @@ use Rattle.aud_client.specs.StaySeen.{FrameSeen, StaySeen}
 use Rattle.aud_check.specs.Frames.{frames_in}
 use Rattle.aud_input.specs.TapLines.{TapLines}
 use Rattle.aud_session_facts.specs.Account.{IsAccount}
-use Rattle.aud_shown.specs.ShowsDifference.{AreNumbersOf}
+use Rattle.aud_session_facts.specs.ShowsDifference.{AreNumbersOf}
 use Rattle.aud_verdict.specs.Session.{own_stays}
 use Rattle.aud_findings.specs.Also.{AreAllOf, AreAlteredAlso, OthersSeen, altered_lines, altered_positions, is_another, told_of}
 

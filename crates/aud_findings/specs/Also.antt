@@ -23,9 +23,9 @@ use Rattle.aud_rows.specs.declared.row.Role.TheVariants.{Entry, Later}
 use Rattle.aud_rows.specs.Rows.{stream_row}
 use Rattle.aud_rows.specs.Seen.{RowSeen}
 use Rattle.aud_rows.specs.StayRows.{frame_row, stays_at}
-use Rattle.aud_shown.specs.declared.frame_place.FramePlace.{FramePlace}
-use Rattle.aud_shown.specs.FramePlaces.{frame_at}
-use Rattle.aud_shown.specs.ShowsDifference.{AreNumbersOf}
+use Rattle.aud_session_facts.specs.declared.shown.frame_place.FramePlace.{FramePlace}
+use Rattle.aud_session_facts.specs.FramePlaces.{frame_at}
+use Rattle.aud_session_facts.specs.ShowsDifference.{AreNumbersOf}
 use Rattle.aud_verdict.specs.Session.{SessionLogs, IsSession, own_stays, due_to}
 use Rattle.aud_findings.specs.declared.outcome.AlsoShown.{AlsoShown}
 use Rattle.aud_findings.specs.declared.outcome.OthersShown.{OthersShown}

@@ -8,7 +8,7 @@ use Rattle.aud_cert.specs.Certificate.{TurnSeen, turn_at}
 use Rattle.aud_input.specs.TapLines.{TapLines}
 use Rattle.aud_rows.specs.Seen.{RowSeen}
 use Rattle.aud_rows.specs.TurnRows.{begin_row, break_row}
-use Rattle.aud_shown.specs.RowLists.{row_and}
+use Rattle.aud_session_facts.specs.RowLists.{row_and}
 
 -- the one turn had reached the position, and the next began in front of it
 abbrev pub is_behind : ℕ → Option TurnSeen → Option TurnSeen → Bool

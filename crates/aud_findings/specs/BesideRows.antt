@@ -12,7 +12,7 @@ use Rattle.aud_rows.specs.declared.row.Role.{Role}
 use Rattle.aud_rows.specs.declared.row.Role.TheVariants.{Left, Room}
 use Rattle.aud_rows.specs.Rows.{node_row}
 use Rattle.aud_rows.specs.Seen.{RowSeen}
-use Rattle.aud_shown.specs.RowLists.{row_and}
+use Rattle.aud_session_facts.specs.RowLists.{row_and}
 use Rattle.aud_findings.specs.Behind.{behind_rows}
 use Rattle.aud_findings.specs.RoomChanges.{left_change, not_due_change, room_change}
 

@@ -10,7 +10,7 @@ use Rattle.aud_session_facts.specs.declared.misfit.Misfit.TheVariants.{NeverOpen
 use Rattle.aud_session_facts.specs.declared.place.RecordPlace.{RecordPlace}
 use Rattle.aud_rows.specs.declared.row.Role.{Role}
 use Rattle.aud_rows.specs.declared.row.Role.TheVariants as role
-use Rattle.aud_shown.specs.declared.node_records.NodeRecord.{NodeRecord}
+use Rattle.aud_session_facts.specs.declared.shown.node_records.NodeRecord.{NodeRecord}
 
 -- ---- the records that a misfit names
 

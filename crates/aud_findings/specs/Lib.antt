@@ -6,8 +6,8 @@ pub use Rattle.aud_session_facts.specs.Misfit
 pub use Rattle.aud_rows.specs.Seen
 pub use Rattle.aud_rows.specs.ClientPlaces
 pub use Rattle.aud_rows.specs.StayRows
-pub use Rattle.aud_shown.specs.RowLists
-pub use Rattle.aud_shown.specs.ShowsDifference
+pub use Rattle.aud_session_facts.specs.RowLists
+pub use Rattle.aud_session_facts.specs.ShowsDifference
 -- what is looked up of all clients at once
 pub mod Prepared
 pub mod NamingReplies

@@ -8,7 +8,7 @@ use Rattle.aud_input.specs.TapLines.{TapLines}
 use Rattle.aud_rows.specs.declared.row.Role.TheVariants.{Fault}
 use Rattle.aud_rows.specs.Seen.{RowSeen}
 use Rattle.aud_rows.specs.StayRows.{reply_row}
-use Rattle.aud_shown.specs.ShowsDifference.{AreNumbersOf}
+use Rattle.aud_session_facts.specs.ShowsDifference.{AreNumbersOf}
 use Rattle.aud_findings.specs.declared.replies.NamingTap.{NamingTap}
 
 -- a client's tap, by its place, and the numbers of stays there

@@ -7,7 +7,7 @@ use Rattle.aud_session_facts.specs.Marks.{turn_marks}
 use Rattle.aud_session_facts.specs.Misfit.{IsMisfit}
 use Rattle.aud_input.specs.TapLines.{TapLines}
 use Rattle.aud_rows.specs.Seen.{RowSeen}
-use Rattle.aud_shown.specs.NodeRows.{node_rows}
+use Rattle.aud_session_facts.specs.NodeRows.{node_rows}
 use Rattle.aud_findings.specs.ChainRecords.{chain_records}
 
 -- in the records of the session with this pid this does not fit, and these are the rows of all node records that begin

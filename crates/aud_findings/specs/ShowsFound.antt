@@ -12,9 +12,9 @@ use Rattle.aud_check.specs.declared.difference.Difference.{Difference}
 use Rattle.aud_check.specs.declared.finding.Finding.{Finding}
 use Rattle.aud_input.specs.TapLines.{TapLines}
 use Rattle.aud_rows.specs.Seen.{RowSeen}
-use Rattle.aud_shown.specs.ShowsAltered.{ShowsAltered}
-use Rattle.aud_shown.specs.ShowsDifference.{ShowsDifference}
-use Rattle.aud_shown.specs.ShowsWindow.{ShowsWindow}
+use Rattle.aud_session_facts.specs.ShowsAltered.{ShowsAltered}
+use Rattle.aud_session_facts.specs.ShowsDifference.{ShowsDifference}
+use Rattle.aud_session_facts.specs.ShowsWindow.{ShowsWindow}
 use Rattle.aud_findings.specs.BesideRows.{beside_rows}
 
 -- these are the rows of a difference between what was received of the session with this pid and what was due to it, and

@@ -18,8 +18,8 @@ use Rattle.aud_rows.specs.declared.row.Role.TheVariants.{Earlier, Fault}
 use Rattle.aud_rows.specs.Rows.{node_row}
 use Rattle.aud_rows.specs.Seen.{RowSeen}
 use Rattle.aud_rows.specs.StayRows.{reply_row, stays_at}
-use Rattle.aud_shown.specs.RowLists.{row_and}
-use Rattle.aud_shown.specs.ShowsDifference.{AreNumbersOf}
+use Rattle.aud_session_facts.specs.RowLists.{row_and}
+use Rattle.aud_session_facts.specs.ShowsDifference.{AreNumbersOf}
 
 -- ---- the `open`
 

@@ -6,8 +6,8 @@ use Rattle.aud_rooms.specs.Turns.{HasNoTurn}
 use Rattle.aud_session_facts.specs.Marks.{turn_marks}
 use Rattle.aud_input.specs.TapLines.{TapLines}
 use Rattle.aud_rows.specs.Seen.{RowSeen}
-use Rattle.aud_shown.specs.NodeRows.{node_rows}
-use Rattle.aud_shown.specs.RowLists.{row_and}
+use Rattle.aud_session_facts.specs.NodeRows.{node_rows}
+use Rattle.aud_session_facts.specs.RowLists.{row_and}
 use Rattle.aud_findings.specs.ChainRecords.{turn_record}
 use Rattle.aud_findings.specs.NamingReplies.{IsFirstReply}
 

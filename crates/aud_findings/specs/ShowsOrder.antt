@@ -9,8 +9,8 @@ use Rattle.aud_findings.specs.Order.{AreInOrder, IsFirstOutOfOrder}
 use Rattle.aud_input.specs.TapLines.{TapLines}
 use Rattle.aud_rows.specs.Seen.{RowSeen}
 use Rattle.aud_rows.specs.declared.row.Role.TheVariants.{Earlier, Fault}
-use Rattle.aud_shown.specs.declared.node_records.NodeRecord.{NodeRecord}
-use Rattle.aud_shown.specs.NodeRows.{node_rows}
+use Rattle.aud_session_facts.specs.declared.shown.node_records.NodeRecord.{NodeRecord}
+use Rattle.aud_session_facts.specs.NodeRows.{node_rows}
 use Rattle.aud_findings.specs.Prepared.{IsOrderRead}
 
 -- ---- the nodes that are out of order

@@ -8,7 +8,7 @@ use Rattle.aud_rows.specs.declared.row.Role.TheVariants.{Ask, Reply, Fault, Late
 use Rattle.aud_rows.specs.EndRows.{lost_row}
 use Rattle.aud_rows.specs.Seen.{RowSeen}
 use Rattle.aud_rows.specs.StayRows.{ask_row, reply_row, frame_row, stays_at}
-use Rattle.aud_shown.specs.RowLists.{row_and}
+use Rattle.aud_session_facts.specs.RowLists.{row_and}
 
 -- what the stay asked, its reply, its first event, and the end of its connection, as far as there are these
 abbrev pub orphan_rows : Cluster → List TapLines → ℕ → ℕ → List RowSeen

@@ -10,8 +10,8 @@ use Rattle.aud_session_facts.specs.declared.reach.Reach.{Reach}
 use Rattle.aud_rows.specs.declared.row.Role.TheVariants.{Entry, Fault, Reached}
 use Rattle.aud_rows.specs.Rows.{node_row, stream_row}
 use Rattle.aud_rows.specs.Seen.{RowSeen}
-use Rattle.aud_shown.specs.RowLists.{row_and}
-use Rattle.aud_shown.specs.ShowsDifference.{AreNumbersOf}
+use Rattle.aud_session_facts.specs.RowLists.{row_and}
+use Rattle.aud_session_facts.specs.ShowsDifference.{AreNumbersOf}
 use Rattle.aud_verdict.specs.Session.{SessionLogs, IsSession, own_stays, due_to}
 use Rattle.aud_findings.specs.Also.{frame_row_at}
 use Rattle.aud_findings.specs.Received.{tail_positions}

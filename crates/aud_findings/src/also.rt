@@ -5,7 +5,7 @@ ghost use Rattle.aud_rows.specs.ClientPlaces.{AreOf};
 ghost use Rattle.aud_rows.specs.Seen.{row_seen};
 ghost use Rattle.aud_rows.specs.StayRows.{stays_at};
 ghost use Rattle.aud_rows.specs.TrueRow.{IsTrueRow};
-ghost use Rattle.aud_shown.specs.FramePlaces.{frame_at};
+ghost use Rattle.aud_session_facts.specs.FramePlaces.{frame_at};
 ghost use Rattle.aud_findings.specs.Prepared.{IsPreparedOf};
 ghost use Rattle.aud_findings.specs.Also.{AreAlso, AreAlteredAlso, IsAlsoShown, also_seen, end_lines, entry_lines, frame_row_at, got_lines, is_altered, is_short, line_of, lines_at, no_others, others_seen, range_shown, told_of};
 ghost use Rattle.aud_findings.specs.Received.{is_parted};
@@ -22,8 +22,7 @@ use aud_cert::Fault;
 use aud_check::Difference;
 use aud_client::Recording;
 use aud_rows::{ClientPlaces, Role, Row, Sheet};
-use aud_session_facts::{Account, positions_received};
-use aud_shown::{FramePlace, frame_at};
+use aud_session_facts::{Account, FramePlace, frame_at, positions_received};
 use aud_verdict::Verdict;
 use std::alloc::{AllocError, Global};
 
@@ -348,7 +347,7 @@ pub(crate) fn frame_row<'r>(
 }
 
 /// Where that frame stands.
-#[tactic(auto, using(crate::proofs::Told::told_some, aud_shown::proofs::NoClient::no_frame))]
+#[tactic(auto, using(crate::proofs::Told::told_some, aud_session_facts::proofs::NoClient::no_frame))]
 fn place_of(
     recording: &Recording<'_>,
     place: usize,

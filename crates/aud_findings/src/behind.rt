@@ -2,7 +2,7 @@
 ghost use Rattle.std.specs.Prelude.{◌≡◌, ◌≤◌, [], IfSome, option_map};
 ghost use Rattle.aud_rows.specs.Seen.{row_seen};
 ghost use Rattle.aud_rows.specs.TrueRow.{IsTrueRow};
-ghost use Rattle.aud_shown.specs.RowLists.{row_and};
+ghost use Rattle.aud_session_facts.specs.RowLists.{row_and};
 ghost use Rattle.aud_findings.specs.Behind.{begun_row, behind_rows, broken_row, first_behind, is_behind_at};
 
 use aud_cert::{Turn, turn_place};

@@ -3,7 +3,7 @@ ghost use Rattle.std.specs.Prelude.{◌≡◌, [], IfSome, option_map};
 ghost use Rattle.aud_maker.specs.Made.{IsMade};
 ghost use Rattle.aud_rows.specs.Seen.{row_seen};
 ghost use Rattle.aud_rows.specs.TrueRow.{IsTrueRow};
-ghost use Rattle.aud_shown.specs.RowLists.{row_and};
+ghost use Rattle.aud_session_facts.specs.RowLists.{row_and};
 ghost use Rattle.aud_findings.specs.BesideRows.{beside_rows, change_row};
 
 use crate::behind::behind;

@@ -3,13 +3,14 @@ ghost use Rattle.std.specs.Prelude.{◌≡◌, IfOk, IfSome, MatchOption, map};
 ghost use Rattle.std.specs.List.{list_any};
 ghost use Rattle.aud_session_facts.specs.Misfit.{HasChain};
 ghost use Rattle.aud_rows.specs.Seen.{row_seen};
-ghost use Rattle.aud_shown.specs.RowLists.{AreTrueRows};
+ghost use Rattle.aud_session_facts.specs.RowLists.{AreTrueRows};
 ghost use Rattle.aud_findings.specs.ChainRecords.{chain_records, earlier_at, fault_at, is_at, is_fault_at, mark_role, other_at, role_in};
 ghost use Rattle.aud_findings.specs.ShowsChain.{ShowsChain};
 
 use aud_rows::{Role, Row, Sheet};
-use aud_session_facts::{Mark, Misfit, RecordPlace, TurnMark, first_misfit, turn_marks};
-use aud_shown::{NodeRecord, node_rows};
+use aud_session_facts::{
+    Mark, Misfit, NodeRecord, RecordPlace, TurnMark, first_misfit, node_rows, turn_marks,
+};
 use std::alloc::{AllocError, Global};
 
 /// The rows of all records of the session that begin or end a turn, and among them, or else after them, the record that

@@ -5,9 +5,9 @@ ghost use Rattle.aud_maker.specs.Made.{IsMade};
 ghost use Rattle.aud_session_facts.specs.Account.{stays_of};
 ghost use Rattle.aud_rows.specs.ClientPlaces.{AreOf};
 ghost use Rattle.aud_rows.specs.Seen.{row_seen};
-ghost use Rattle.aud_shown.specs.DifferenceRows.{difference_rows};
-ghost use Rattle.aud_shown.specs.RowLists.{AreTrueRows};
-ghost use Rattle.aud_shown.specs.SessionRows.{session_of};
+ghost use Rattle.aud_session_facts.specs.DifferenceRows.{difference_rows};
+ghost use Rattle.aud_session_facts.specs.RowLists.{AreTrueRows};
+ghost use Rattle.aud_session_facts.specs.SessionRows.{session_of};
 ghost use Rattle.aud_findings.specs.BesideRows.{beside_rows};
 ghost use Rattle.aud_findings.specs.ShowsFound.{IsFoundOtherwise, ShowsFound};
 ghost use Rattle.aud_findings.specs.Private.Known.{IsShownBy, finding_rows};
@@ -16,8 +16,9 @@ use crate::beside::beside;
 use aud_cert::{Certificate, Fault};
 use aud_check::{Difference, Finding};
 use aud_rows::Row;
-use aud_session_facts::Account;
-use aud_shown::{ShownSession, altered_rows, difference_rows, push_row, push_rows, window_rows};
+use aud_session_facts::{
+    Account, ShownSession, altered_rows, difference_rows, push_row, push_rows, window_rows,
+};
 use std::alloc::{AllocError, Global};
 
 /// The rows that show what was found wrong first with what was received of the session, where the fault is such a one;

@@ -2,7 +2,7 @@
 ghost use Rattle.std.specs.Prelude.{◌≡◌, IfOk, IfSome, MatchOption, is_some, map};
 ghost use Rattle.aud_rows.specs.Seen.{row_seen};
 ghost use Rattle.aud_rows.specs.ClientPlaces.{AreOf};
-ghost use Rattle.aud_shown.specs.RowLists.{AreTrueRows};
+ghost use Rattle.aud_session_facts.specs.RowLists.{AreTrueRows};
 ghost use Rattle.aud_findings.specs.Prepared.{IsPreparedOf};
 ghost use Rattle.aud_findings.specs.Evidence.{IsEvidence, IsFaultShown, IsOfClient, ShowsTold, TellsNone};
 ghost use Rattle.aud_session_facts.specs.Account.{IsAccountOf, stays_of};
@@ -20,8 +20,7 @@ use crate::tail::tail_shown;
 use crate::unplaced::{client_rows, no_log_rows};
 use aud_cert::Fault;
 use aud_rows::{ClientPlaces, Row, Sheet};
-use aud_session_facts::Account;
-use aud_shown::ShownSession;
+use aud_session_facts::{Account, ShownSession};
 use aud_verdict::Verdict;
 use std::alloc::{AllocError, Global};
 

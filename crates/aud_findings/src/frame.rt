@@ -2,12 +2,12 @@
 ghost use Rattle.std.specs.Prelude.{◌≡◌, IfOk, IfSome, MatchOption, None, map};
 ghost use Rattle.aud_rows.specs.Seen.{row_seen};
 ghost use Rattle.aud_rows.specs.ClientPlaces.{AreOf};
-ghost use Rattle.aud_shown.specs.RowLists.{AreTrueRows};
+ghost use Rattle.aud_session_facts.specs.RowLists.{AreTrueRows};
 ghost use Rattle.aud_findings.specs.ShowsFrame.{ShowsFrame, bad_number};
 
 use aud_client::Recording;
 use aud_rows::{ClientPlaces, Role, Row, Sheet};
-use aud_shown::push_row;
+use aud_session_facts::push_row;
 use std::alloc::{AllocError, Global};
 
 /// The row of the tap's first record that is no packet; none where each is one.

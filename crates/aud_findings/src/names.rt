@@ -9,15 +9,14 @@ ghost use Rattle.aud_session_facts.specs.Places.{record_at};
 ghost use Rattle.aud_rows.specs.Seen.{row_seen};
 ghost use Rattle.aud_rows.specs.ClientPlaces.{AreOf};
 ghost use Rattle.aud_rows.specs.StayRows.{stays_at};
-ghost use Rattle.aud_shown.specs.RowLists.{AreTrueRows};
+ghost use Rattle.aud_session_facts.specs.RowLists.{AreTrueRows};
 ghost use Rattle.aud_findings.specs.ShowsNames.{AreNamedAlike, IsOpenedAs, ShowsNames, first_otherwise, is_named_otherwise, is_open, is_open_mark, is_some_otherwise, names_rows};
 
 use crate::replies::{numbers_naming, stay_at};
 use aud_client::{Recording, Reply, Stay};
 use aud_node::Logs;
 use aud_rows::{ClientPlaces, Role, Row, Sheet};
-use aud_session_facts::{Mark, RecordPlace, TurnMark, turn_marks};
-use aud_shown::push_row;
+use aud_session_facts::{Mark, RecordPlace, TurnMark, push_row, turn_marks};
 use aud_tap::NodeRec;
 use std::alloc::{AllocError, Global};
 

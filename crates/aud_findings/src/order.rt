@@ -2,7 +2,7 @@
 ghost use Rattle.std.specs.Prelude.{◌≡◌, ◌++◌, ◌∷◌, [], IfOk, IfSome, MatchOption, OnOk, map, slice_get};
 ghost use Rattle.aud_node.specs.OwnPlaces.{own_places};
 ghost use Rattle.aud_rows.specs.Seen.{row_seen};
-ghost use Rattle.aud_shown.specs.RowLists.{AreTrueRows};
+ghost use Rattle.aud_session_facts.specs.RowLists.{AreTrueRows};
 ghost use Rattle.aud_findings.specs.Prepared.{IsOrderRead, IsPreparedOf};
 ghost use Rattle.aud_findings.specs.ShowsOrder.{AreOrdered, AreOutOfOrder, ShowsOrder, order_records, places_in};
 
@@ -10,8 +10,7 @@ use crate::prepared::{Prepared, PreparedTap};
 use crate::unordered::first_unordered;
 use aud_node::Logs;
 use aud_rows::{Role, Row, Sheet};
-use aud_session_facts::RecordPlace;
-use aud_shown::{NodeRecord, node_rows};
+use aud_session_facts::{NodeRecord, RecordPlace, node_rows};
 use std::alloc::{AllocError, Global};
 
 /// The rows of the first record out of order of a node that has records of the session, the first such node in the

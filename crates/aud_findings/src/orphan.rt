@@ -5,14 +5,14 @@ ghost use Rattle.aud_client.specs.Received.{is_orphan, names_somebody};
 ghost use Rattle.aud_rows.specs.Seen.{row_seen};
 ghost use Rattle.aud_rows.specs.ClientPlaces.{AreOf};
 ghost use Rattle.aud_rows.specs.StayRows.{stays_at};
-ghost use Rattle.aud_shown.specs.RowLists.{AreTrueRows};
+ghost use Rattle.aud_session_facts.specs.RowLists.{AreTrueRows};
 ghost use Rattle.aud_findings.specs.Prepared.{IsPreparedOf};
 ghost use Rattle.aud_findings.specs.ShowsOrphan.{ShowsOrphan, orphan_rows};
 
 use crate::prepared::{Prepared, PreparedTap};
 use aud_client::{IndexedTranscript, Recording, Reply, Stay};
 use aud_rows::{ClientPlaces, Role, Row, Sheet};
-use aud_shown::push_row;
+use aud_session_facts::push_row;
 use std::alloc::{AllocError, Global};
 
 /// The rows of the tap's first stay that has events and whose reply, if there is one, names nobody: what it asked, its

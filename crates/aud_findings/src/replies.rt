@@ -4,7 +4,7 @@ ghost use Rattle.std.specs.List.{AllZip};
 ghost use Rattle.std.specs.Option.{option_copied};
 ghost use Rattle.aud_client.specs.Replies.{naming_places};
 ghost use Rattle.aud_rows.specs.StayRows.{stays_at};
-ghost use Rattle.aud_shown.specs.ShowsDifference.{AreNumbersOf};
+ghost use Rattle.aud_session_facts.specs.ShowsDifference.{AreNumbersOf};
 ghost use Rattle.aud_findings.specs.NamingReplies.{IsNamingTap, naming_seen};
 
 use aud_client::{Recording, Stay};

@@ -6,7 +6,7 @@ ghost use Rattle.aud_session_facts.specs.Account.{IsAccountOf};
 ghost use Rattle.aud_rows.specs.Seen.{row_seen};
 ghost use Rattle.aud_rows.specs.ClientPlaces.{AreOf};
 ghost use Rattle.aud_rows.specs.TrueRow.{IsTrueRow};
-ghost use Rattle.aud_shown.specs.RowLists.{AreTrueRows};
+ghost use Rattle.aud_session_facts.specs.RowLists.{AreTrueRows};
 ghost use Rattle.aud_findings.specs.Also.{AreTailAlso, others_seen};
 ghost use Rattle.aud_findings.specs.Received.{tail_positions};
 ghost use Rattle.aud_findings.specs.Tail.{ShowsTail, reached_row, tail_rows};
@@ -18,8 +18,7 @@ use crate::outcome::OthersShown;
 use crate::rooms::reach_of;
 use aud_cert::Turn;
 use aud_rows::{Role, Row, Sheet};
-use aud_session_facts::{Account, positions_received};
-use aud_shown::{ShownSession, push_row};
+use aud_session_facts::{Account, ShownSession, positions_received, push_row};
 use std::alloc::{AllocError, Global};
 
 /// The rows that show the session's tail, none where it has none.

@@ -5,8 +5,8 @@ ghost use Rattle.aud_rooms.specs.Turns.{HasNoTurn};
 ghost use Rattle.aud_rows.specs.Seen.{row_seen};
 ghost use Rattle.aud_rows.specs.ClientPlaces.{AreOf};
 ghost use Rattle.aud_rows.specs.TrueRow.{IsTrueRow};
-ghost use Rattle.aud_shown.specs.RowLists.{AreTrueRows};
-ghost use Rattle.aud_shown.specs.ShowsDifference.{AreNumbersOf};
+ghost use Rattle.aud_session_facts.specs.RowLists.{AreTrueRows};
+ghost use Rattle.aud_session_facts.specs.ShowsDifference.{AreNumbersOf};
 ghost use Rattle.aud_findings.specs.Prepared.{IsPreparedOf};
 ghost use Rattle.aud_findings.specs.NamingReplies.{first_row_at, IsFirstReply, IsFirstReplyOf, naming_seen, replies_at, replies_of};
 ghost use Rattle.aud_findings.specs.ChainRecords.{turn_record};
@@ -17,8 +17,7 @@ use crate::chain::mark_role;
 use crate::prepared::Prepared;
 use crate::replies::{NamingTap, naming_taps, numbers_naming};
 use aud_rows::{ClientPlaces, Role, Row, Sheet};
-use aud_session_facts::{TurnMark, turn_marks};
-use aud_shown::{NodeRecord, node_rows, push_row, push_rows};
+use aud_session_facts::{NodeRecord, TurnMark, node_rows, push_row, push_rows, turn_marks};
 use std::alloc::{AllocError, Global};
 
 /// The rows of the first reply that names the session, and of the records of nodes that begin or end turns of it. A tap

@@ -17,3 +17,5 @@ mod FramePositions
 mod Sessions
 pub mod Differences
 mod Judged
+pub mod NoClient
+pub mod Shows

@@ -11,6 +11,10 @@ pub use Rattle.aud_maker.specs.Faults
 pub use Rattle.aud_maker.specs.Chain
 pub use Rattle.aud_check.specs.Difference
 pub use Rattle.aud_verdict.specs.Session
+pub use Rattle.aud_rows.specs.Seen
+pub use Rattle.aud_rows.specs.ClientPlaces
+pub use Rattle.aud_rows.specs.StayRows
+pub use Rattle.aud_rows.specs.TrueRow
 -- what was received, what was due, and what was found
 pub mod Account
 -- recoveries
@@ -28,5 +32,16 @@ pub mod NotDue
 pub mod Places
 pub mod Marks
 pub mod Misfit
+-- the rows that show a fault
+pub mod FramePlaces
+pub mod RowLists
+pub mod SessionRows
+pub mod DifferenceRows
+pub mod ShowsDifference
+pub mod ContentRows
+pub mod ShowsAltered
+pub mod WindowRows
+pub mod ShowsWindow
+pub mod NodeRows
 -- what private contracts alone cite
 pub mod Private

@@ -1,5 +1,5 @@
 //! What the recording says of a session: the account of it, the recoveries that its clients asked for, where it reached
-//! a position, and what does not fit in its chain of turns. Explanations go by these facts.
+//! a position, what does not fit in its chain of turns, and the rows that show its fault. Explanations go by these facts.
 //!
 //! [`account_of`] tells what a client received of a session, what was due to it, and what is wrong first. With the
 //! `recording` of a session `P` to which two events were due, and whose client received the first of them twice:
@@ -58,6 +58,9 @@
 //! let back = RecordPlace { node: 2, number: 3 };
 //! assert_eq!(rt; misfit, Some(Misfit::MissingBreak { turn: 0, begin, back }));
 //! ```
+//!
+//! [`ShownSession`] is a session whose fault is shown: [`difference_rows`], [`altered_rows`] and [`window_rows`] give the
+//! records that show it, on which lines, and what each says.
 #![tactic(auto)]
 
 mod account;
@@ -83,6 +86,7 @@ mod positions;
 mod reach;
 mod rooms;
 mod search;
+mod shown;
 mod verdict_law;
 
 pub use account::{Account, account_of};
@@ -100,4 +104,11 @@ pub use place::RecordPlace;
 pub use positions::positions_received;
 pub use reach::{Reach, first_reach};
 pub use rooms::rooms_held;
+pub use shown::content::altered_rows;
+pub use shown::difference::difference_rows;
+pub use shown::frame_place::{FramePlace, frame_at};
+pub use shown::node_records::{NodeRecord, node_rows};
+pub use shown::pushed::{push_row, push_rows};
+pub use shown::session::ShownSession;
+pub use shown::window::window_rows;
 pub use verdict_law::verdict_is_found;

@@ -13,12 +13,12 @@ use Rattle.aud_session_facts.specs.declared.account.Account.{Account}
 use Rattle.aud_session_facts.specs.Account.{IsAccountOf}
 use Rattle.aud_rows.specs.declared.row.Row.{Row}
 use Rattle.aud_rows.specs.Seen.{RowSeen, row_seen}
-use Rattle.aud_shown.specs.declared.session.ShownSession.{ShownSession}
-use Rattle.aud_shown.specs.ContentRows.{altered_rows}
-use Rattle.aud_shown.specs.DifferenceRows.{difference_rows}
-use Rattle.aud_shown.specs.SessionRows.{Session}
-use Rattle.aud_shown.specs.ShowsDifference.{AreNumbersOf}
-use Rattle.aud_shown.specs.WindowRows.{window_rows}
+use Rattle.aud_session_facts.specs.declared.shown.session.ShownSession.{ShownSession}
+use Rattle.aud_session_facts.specs.ContentRows.{altered_rows}
+use Rattle.aud_session_facts.specs.DifferenceRows.{difference_rows}
+use Rattle.aud_session_facts.specs.SessionRows.{Session}
+use Rattle.aud_session_facts.specs.ShowsDifference.{AreNumbersOf}
+use Rattle.aud_session_facts.specs.WindowRows.{window_rows}
 use Rattle.aud_findings.specs.BesideRows.{beside_rows}
 use Rattle.aud_findings.specs.Received.{frame_of}
 

@@ -20,8 +20,8 @@ use Rattle.aud_input.specs.TapLines.{TapLines}
 use Rattle.aud_rows.specs.declared.row.Role.TheVariants as role
 use Rattle.aud_rows.specs.Rows.{node_row}
 use Rattle.aud_rows.specs.Seen.{RowSeen}
-use Rattle.aud_shown.specs.declared.node_records.NodeRecord.{NodeRecord}
-use Rattle.aud_shown.specs.NodeRows.{record_row, node_rows}
+use Rattle.aud_session_facts.specs.declared.shown.node_records.NodeRecord.{NodeRecord}
+use Rattle.aud_session_facts.specs.NodeRows.{record_row, node_rows}
 use Rattle.aud_findings.specs.ChainRecords.{fault_at, earlier_at, mark_role, is_at, role_in, is_fault_at, other_at, chain_records}
 use Rattle.aud_findings.specs.Evidence.{ShowsOr}
 use Rattle.aud_findings.specs.ShowsChain.{ShowsChain}

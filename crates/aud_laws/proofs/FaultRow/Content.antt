@@ -8,8 +8,8 @@ use Rattle.aud_input.specs.TapLines.{TapLines}
 use Rattle.aud_verdict.specs.Session.{own_stays}
 use Rattle.aud_rows.specs.declared.row.Role.TheVariants.{Fault}
 use Rattle.aud_rows.specs.Seen.{RowSeen}
-use Rattle.aud_shown.specs.SessionRows.{Session, entry_row, got_row}
-use Rattle.aud_shown.specs.ShowsAltered.{ShowsAltered}
+use Rattle.aud_session_facts.specs.SessionRows.{Session, entry_row, got_row}
+use Rattle.aud_session_facts.specs.ShowsAltered.{ShowsAltered}
 use Rattle.aud_laws.specs.FaultRows.{KnowsEachRecord, has_fault_row}
 use Rattle.aud_laws.proofs.FaultRow.Frames.{count_is, frame_there}
 use Rattle.aud_laws.proofs.FaultRow.Rows.{marked_after, marked_and}

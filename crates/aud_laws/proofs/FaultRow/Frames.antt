@@ -16,10 +16,10 @@ use Rattle.aud_input.specs.TapLines.{TapLines}
 use Rattle.aud_verdict.specs.Session.{SessionLogs, IsSession, own_stays}
 use Rattle.aud_rows.specs.declared.row.Role.TheVariants.{Fault}
 use Rattle.aud_rows.specs.StayRows.{ask_row, frame_row, stays_at}
-use Rattle.aud_shown.specs.declared.frame_place.FramePlace.{FramePlace}
-use Rattle.aud_shown.specs.FramePlaces.{frame_at}
-use Rattle.aud_shown.specs.SessionRows.{Session, ask_of_stay, got_row}
-use Rattle.aud_shown.specs.ShowsDifference.{AreNumbersOf}
+use Rattle.aud_session_facts.specs.declared.shown.frame_place.FramePlace.{FramePlace}
+use Rattle.aud_session_facts.specs.FramePlaces.{frame_at}
+use Rattle.aud_session_facts.specs.SessionRows.{Session, ask_of_stay, got_row}
+use Rattle.aud_session_facts.specs.ShowsDifference.{AreNumbersOf}
 use Rattle.aud_laws.specs.FaultRows.{KnowsEachRecord}
 use Rattle.aud_laws.proofs.FaultRow.Placed.{numbered_stay, placed}
 use Rattle.aud_laws.proofs.FaultRow.Rows.{Marked}

@@ -40,7 +40,7 @@ use Rattle.aud_rows.specs.declared.row.Role.TheVariants.{Earlier, Fault}
 use Rattle.aud_rows.specs.Rows.{node_row}
 use Rattle.aud_rows.specs.Seen.{RowSeen}
 use Rattle.aud_rows.specs.StayRows.{stays_at, reply_row}
-use Rattle.aud_shown.specs.RowLists.{row_and}
+use Rattle.aud_session_facts.specs.RowLists.{row_and}
 use Rattle.aud_findings.specs.Evidence.{ShowsOr}
 use Rattle.aud_findings.specs.ShowsNames.{ShowsNames, AreNamedAlike, IsOpenedAs, is_open_mark, is_open, is_named_otherwise, is_some_otherwise, first_otherwise}
 use Rattle.aud_laws.specs.FaultRows.{KnowsEachRecord, has_fault_row}

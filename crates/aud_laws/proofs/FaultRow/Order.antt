@@ -19,8 +19,8 @@ use Rattle.aud_input.specs.TapLines.{TapLines}
 use Rattle.aud_rows.specs.declared.row.Role.TheVariants.{Earlier, Fault}
 use Rattle.aud_rows.specs.Rows.{node_row}
 use Rattle.aud_rows.specs.Seen.{RowSeen}
-use Rattle.aud_shown.specs.RowLists.{row_and}
-use Rattle.aud_shown.specs.NodeRows.{node_rows}
+use Rattle.aud_session_facts.specs.RowLists.{row_and}
+use Rattle.aud_session_facts.specs.NodeRows.{node_rows}
 use Rattle.aud_findings.specs.Evidence.{ShowsOr}
 use Rattle.aud_findings.specs.Order.{AreInOrder}
 use Rattle.aud_findings.specs.ShowsOrder.{ShowsOrder, AreOrdered, order_records}

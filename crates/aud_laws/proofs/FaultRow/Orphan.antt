@@ -17,7 +17,7 @@ use Rattle.aud_rows.specs.declared.row.Role.TheVariants.{Ask, Reply, Fault, Late
 use Rattle.aud_rows.specs.EndRows.{lost_row}
 use Rattle.aud_rows.specs.Seen.{RowSeen}
 use Rattle.aud_rows.specs.StayRows.{stays_at, ask_row, reply_row, frame_row}
-use Rattle.aud_shown.specs.RowLists.{row_and}
+use Rattle.aud_session_facts.specs.RowLists.{row_and}
 use Rattle.aud_findings.specs.Evidence.{ShowsOr}
 use Rattle.aud_findings.specs.ShowsOrphan.{ShowsOrphan}
 use Rattle.aud_laws.specs.FaultRows.{KnowsEachRecord, has_fault_row}

@@ -11,10 +11,10 @@ use Rattle.aud_input.specs.TapLines.{TapLines}
 use Rattle.aud_verdict.specs.Session.{SessionLogs, IsSession, own_stays, due_to}
 use Rattle.aud_rows.specs.declared.row.Role.TheVariants.{Earlier, Fault, Later}
 use Rattle.aud_rows.specs.Seen.{RowSeen}
-use Rattle.aud_shown.specs.DifferenceRows.{difference_rows, due_rows}
-use Rattle.aud_shown.specs.RowLists.{row_and}
-use Rattle.aud_shown.specs.SessionRows.{Session, asked_row, entry_row, got_row, reached_row}
-use Rattle.aud_shown.specs.ShowsDifference.{AreNumbersOf}
+use Rattle.aud_session_facts.specs.DifferenceRows.{difference_rows, due_rows}
+use Rattle.aud_session_facts.specs.RowLists.{row_and}
+use Rattle.aud_session_facts.specs.SessionRows.{Session, asked_row, entry_row, got_row, reached_row}
+use Rattle.aud_session_facts.specs.ShowsDifference.{AreNumbersOf}
 use Rattle.aud_findings.specs.BesideRows.{beside_rows}
 use Rattle.aud_findings.specs.ShowsFound.{ShowsDelivery}
 use Rattle.aud_laws.specs.FaultRows.{KnowsEachRecord, has_fault_row}

@@ -11,8 +11,8 @@ use Rattle.aud_client.specs.StaySeen.{StaySeen, FrameSeen}
 use Rattle.aud_client.specs.Received.{numbers_naming, stay_names_pid, stays_naming, stays_numbered}
 use Rattle.aud_client.proofs.Numbers.{numbered_naming}
 use Rattle.aud_check.specs.Frames.{frames_in}
-use Rattle.aud_shown.specs.declared.frame_place.FramePlace.{FramePlace}
-use Rattle.aud_shown.specs.FramePlaces.{frame_at, frames_of}
+use Rattle.aud_session_facts.specs.declared.shown.frame_place.FramePlace.{FramePlace}
+use Rattle.aud_session_facts.specs.FramePlaces.{frame_at, frames_of}
 
 -- ---- frames
 

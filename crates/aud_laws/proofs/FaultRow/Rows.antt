@@ -18,7 +18,7 @@ use Rattle.aud_rows.specs.NodeSays.{node_says, session_at}
 use Rattle.aud_node.specs.Cursors.{cursor_at}
 use Rattle.aud_rows.specs.Rows.{row_of, node_row}
 use Rattle.aud_rows.specs.Seen.{RowSeen, SaysSeen}
-use Rattle.aud_shown.specs.RowLists.{row_and}
+use Rattle.aud_session_facts.specs.RowLists.{row_and}
 use Rattle.aud_findings.specs.ClientShown.{is_fault}
 use Rattle.aud_laws.specs.FaultRows.{KnowsEachRecord, has_fault_row}
 

@@ -5,9 +5,9 @@ use Rattle.aud_node.specs.Stream.{Text}
 use Rattle.aud_input.specs.TapLines.{TapLines}
 use Rattle.aud_rows.specs.declared.row.Role.TheVariants.{Fault}
 use Rattle.aud_rows.specs.Seen.{RowSeen}
-use Rattle.aud_shown.specs.SessionRows.{Session, ask_of_stay}
-use Rattle.aud_shown.specs.ShowsWindow.{ShowsWindow}
-use Rattle.aud_shown.specs.WindowRows.{before_row}
+use Rattle.aud_session_facts.specs.SessionRows.{Session, ask_of_stay}
+use Rattle.aud_session_facts.specs.ShowsWindow.{ShowsWindow}
+use Rattle.aud_session_facts.specs.WindowRows.{before_row}
 use Rattle.aud_laws.specs.FaultRows.{KnowsEachRecord, has_fault_row}
 use Rattle.aud_laws.proofs.FaultRow.Frames.{recovered_marked}
 use Rattle.aud_laws.proofs.FaultRow.Rows.{marked_after, marked_and}

@@ -1,6 +1,6 @@
 use Rattle.std.proofs.Common.{◌∙◌, sym, ap}
 use Rattle.std.specs.Option.{option_copied}
-use Rattle.aud_shown.proofs.NoClient.{no_frame}
+use Rattle.aud_session_facts.proofs.NoClient.{no_frame}
 use Rattle.aud_causes.proofs.lines.frame_in.Goals as goal
 
 pub returns-in_err-client : goal.returns-in_err-client

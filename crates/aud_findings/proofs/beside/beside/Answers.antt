@@ -3,7 +3,7 @@ use Rattle.aud_node.specs.Cluster.{Cluster}
 use Rattle.aud_maker.specs.Made.{IsMade}
 use Rattle.aud_rows.specs.declared.row.Role.TheVariants.{Room}
 use Rattle.aud_rows.specs.Seen.{row_seen}
-use Rattle.aud_shown.specs.RowLists.{row_and}
+use Rattle.aud_session_facts.specs.RowLists.{row_and}
 use Rattle.aud_findings.specs.BesideRows.{beside_rows, change_row}
 use Rattle.aud_findings.specs.RoomChanges.{not_due_change}
 use Rattle.aud_findings.proofs.beside.beside.Goals as goal

@@ -1,7 +1,7 @@
 use Rattle.std.proofs.Common.{◌∙◌, ap, slice_get, subst, sym}
 use Rattle.aud_node.specs.Cluster.{Cluster}
 use Rattle.aud_node.specs.OwnPlaces.{own_places}
-use Rattle.aud_shown.specs.NodeRows.{node_rows}
+use Rattle.aud_session_facts.specs.NodeRows.{node_rows}
 use Rattle.aud_findings.specs.ShowsOrder.{AreOutOfOrder}
 use Rattle.aud_findings.proofs.Nodes.{none_unordered, first_unordered_is}
 use Rattle.aud_findings.proofs.order.order_shown.Goals as goal

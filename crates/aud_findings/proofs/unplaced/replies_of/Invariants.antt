@@ -1,6 +1,6 @@
 use Rattle.std.proofs.Common.{◌≡◌, flat_map, map, take}
 use Rattle.aud_rows.specs.Seen.{row_seen}
-use Rattle.aud_shown.specs.RowLists.{AreTrueRows}
+use Rattle.aud_session_facts.specs.RowLists.{AreTrueRows}
 use Rattle.aud_findings.specs.NamingReplies.{naming_seen, replies_of}
 use Rattle.aud_findings.proofs.unplaced.replies_of.Given as goal
 

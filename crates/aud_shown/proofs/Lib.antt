@@ -1,2 +1,0 @@
-pub mod NoClient
-pub mod Shows
