@@ -8,7 +8,7 @@ use Rattle.aud_node.specs.Stream.{Text}
 use Rattle.aud_client.specs.Replies.{is_this}
 use Rattle.aud_session_facts.specs.declared.asked.Recovery.{Recovery}
 use Rattle.aud_session_facts.specs.Recoveries.{is_refused, recoveries_of, stays_at}
-use Rattle.aud_timeline.specs.Refused.{asked_in}
+use Rattle.aud_findings.specs.Refused.{asked_in}
 use Rattle.aud_explain_app.specs.declared.asked.Asked.{Asked}
 
 -- the session that was asked for

@@ -9,7 +9,7 @@ use Rattle.aud_input.specs.TapLines.{TapLines}
 use Rattle.aud_session_facts.specs.declared.asked.Recovery.{Recovery}
 use Rattle.aud_rows.specs.declared.client_places.ClientPlaces.{ClientPlaces}
 use Rattle.aud_session_facts.specs.ShowsDifference.{AreNumbersOf}
-use Rattle.aud_timeline.specs.ClientEvents.{client_events}
+use Rattle.aud_findings.specs.ClientEvents.{client_events}
 
 -- the place of the tap, if there is one
 abbrev pub place_of : Option ClientPlaces → Option ℕ

@@ -22,7 +22,7 @@ use Rattle.aud_session_facts.specs.declared.asked.Recovery.{Recovery}
 use Rattle.aud_verdict.specs.declared.verdict.Verdict.{Verdict}
 use Rattle.aud_rows.specs.Seen.{row_seen}
 use Rattle.aud_session_facts.specs.RowLists.{AreTrueRows}
-use Rattle.aud_timeline.specs.ShownTurn.{turn_seen}
+use Rattle.aud_findings.specs.ShownTurn.{turn_seen}
 use Rattle.aud_explain_app.specs.declared.explained.Explained.{Explained}
 use Rattle.aud_explain_app.specs.Events.{AreEvents}
 use Rattle.aud_explain_app.specs.Noted.{IsNoted}

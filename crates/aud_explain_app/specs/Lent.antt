@@ -10,8 +10,8 @@ use Rattle.aud_explanation.specs.declared.cause.CauseOf.TheVariants.{Refused}
 use Rattle.aud_explanation.specs.declared.refused.RefusedRecovery.{RefusedRecovery}
 use Rattle.aud_findings.specs.Also.{AlsoSeen}
 use Rattle.aud_rows.specs.Seen.{row_seen}
-use Rattle.aud_timeline.specs.declared.refused.RefusedShown.{RefusedShown}
-use Rattle.aud_timeline.specs.Refused.{RefusedSeen, missed_seen, refused_seen}
+use Rattle.aud_findings.specs.declared.timeline.refused.RefusedShown.{RefusedShown}
+use Rattle.aud_findings.specs.Refused.{RefusedSeen, missed_seen, refused_seen}
 use Rattle.aud_explain_app.specs.declared.refused_told.RefusedTold.{RefusedTold}
 
 abbrev pub also_told : Also → AlsoSeen

@@ -9,8 +9,8 @@ use Rattle.aud_session_facts.specs.Recoveries.{stays_at}
 use Rattle.aud_rows.specs.declared.row.Role.TheVariants as role
 use Rattle.aud_rows.specs.StayRows.{ask_row}
 use Rattle.aud_rows.specs.TrueRow.{IsTrueRow}
-use Rattle.aud_timeline.specs.declared.refused.RefusedShown.{RefusedShown}
-use Rattle.aud_timeline.specs.Refused.{ShowsRefused, refused_seen}
+use Rattle.aud_findings.specs.declared.timeline.refused.RefusedShown.{RefusedShown}
+use Rattle.aud_findings.specs.Refused.{ShowsRefused, refused_seen}
 use Rattle.aud_explain_app.specs.declared.refused_told.RefusedTold.{RefusedTold}
 
 -- what is told of the recovery shows it, in true rows, or the line is not known on which it was asked for; and these

@@ -5,9 +5,9 @@ use Rattle.aud_node.specs.Stream.{Text}
 use Rattle.aud_session_facts.specs.declared.account.Account.{Account}
 use Rattle.aud_session_facts.specs.Marks.{turn_marks}
 use Rattle.aud_input.specs.TapLines.{TapLines}
-use Rattle.aud_timeline.specs.ShownTurn.{ShownTurn}
-use Rattle.aud_timeline.specs.ChainTurns.{turns_shown}
-use Rattle.aud_timeline.specs.MarkedTurns.{marked_turns}
+use Rattle.aud_findings.specs.ShownTurn.{ShownTurn}
+use Rattle.aud_findings.specs.ChainTurns.{turns_shown}
+use Rattle.aud_findings.specs.MarkedTurns.{marked_turns}
 
 -- those of the session's certificate, if it has an account; else those that its records on the nodes begin
 abbrev pub turns_told : Cluster → List TapLines → Text → Option Account → List ShownTurn

@@ -8,10 +8,9 @@ ghost use Rattle.aud_explain_app.specs.Events.{AreEvents, AreEventsAt, place_of,
 
 use aud_client::Recording;
 use aud_explanation::ClientEvent;
-use aud_findings::numbers_naming;
+use aud_findings::{client_events, numbers_naming};
 use aud_rows::{ClientPlaces, Sheet};
 use aud_session_facts::Recovery;
-use aud_timeline::client_events;
 use std::alloc::{AllocError, Global};
 
 /// The place of the one client's tap with a reply that names the session, if there is just one.

@@ -3,14 +3,13 @@ ghost use Rattle.std.specs.Prelude.{◌≡◌, ◌++◌, IfOk, OnOk, flat_map, m
 ghost use Rattle.aud_explanation.specs.declared.cause.CauseOf.TheVariants.{Fault};
 ghost use Rattle.aud_findings.specs.Also.{also_seen};
 ghost use Rattle.std.specs.Option.{option_copied, option_map};
-ghost use Rattle.aud_timeline.specs.Refused.{missed_seen, refused_seen};
+ghost use Rattle.aud_findings.specs.Refused.{missed_seen, refused_seen};
 ghost use Rattle.aud_explain_app.specs.Lent.{also_told, ask_line, cause_of, cause_told, causes_of_refusal, causes_of_refusals, recoveries_shown, recovery_told, shown_of};
 
 use crate::refused_told::RefusedTold;
 use aud_causes::CauseFound;
 use aud_explanation::{Also, Cause, CauseOf, Missed, RefusedRecovery};
-use aud_findings::AlsoShown;
-use aud_timeline::RefusedShown;
+use aud_findings::{AlsoShown, RefusedShown};
 use std::alloc::{AllocError, Global};
 
 /// The other entries with the same fault.

@@ -6,10 +6,9 @@ ghost use Rattle.aud_findings.specs.Prepared.{IsPreparedOf};
 ghost use Rattle.aud_explain_app.specs.Refused.{IsRefusedTold};
 
 use aud_causes::{CauseFound, causes_of_refusal};
-use aud_findings::Prepared;
+use aud_findings::{Prepared, RefusedShown, refused_shown};
 use aud_rows::{ClientPlaces, Sheet};
 use aud_session_facts::Recovery;
-use aud_timeline::{RefusedShown, refused_shown};
 use std::alloc::{AllocError, Global};
 
 /// A recovery that was refused, and what that may come from.

@@ -1,13 +1,13 @@
 //! The turns of a session.
 ghost use Rattle.std.specs.Prelude.{◌≡◌, IfOk, map};
 ghost use Rattle.std.specs.Option.{option_copied};
-ghost use Rattle.aud_timeline.specs.ShownTurn.{turn_seen};
+ghost use Rattle.aud_findings.specs.ShownTurn.{turn_seen};
 ghost use Rattle.aud_explain_app.specs.Turns.{turns_told};
 
 use aud_explanation::TurnShown;
+use aud_findings::{turns_of_chain, turns_of_marks};
 use aud_rows::Sheet;
 use aud_session_facts::{Account, turn_marks};
-use aud_timeline::{turns_of_chain, turns_of_marks};
 use std::alloc::{AllocError, Global};
 
 /// The turns of the session: those of its certificate where it has an account, else those that its records on the nodes

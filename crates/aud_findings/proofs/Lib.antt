@@ -10,3 +10,8 @@ pub mod Naming
 pub mod Nodes
 pub mod Firsts
 pub mod Unaltered
+pub mod OrderLemmas
+pub mod RunLemmas
+pub mod NumberLemmas
+pub mod ChainLemmas
+pub mod KeptLemmas

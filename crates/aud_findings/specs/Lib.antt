@@ -1,11 +1,16 @@
 pub use Rattle.aud_node.specs.Cluster
 pub use Rattle.aud_client.specs.Replies
 pub use Rattle.aud_rooms.specs.Turns
+pub use Rattle.aud_cert.specs.Certificate
 pub use Rattle.aud_session_facts.specs.Account
+pub use Rattle.aud_session_facts.specs.Marks
 pub use Rattle.aud_session_facts.specs.Misfit
+pub use Rattle.aud_session_facts.specs.Missed
 pub use Rattle.aud_rows.specs.Seen
 pub use Rattle.aud_rows.specs.ClientPlaces
 pub use Rattle.aud_rows.specs.StayRows
+pub use Rattle.aud_rows.specs.EndRows
+pub use Rattle.aud_rows.specs.TrueRow
 pub use Rattle.aud_session_facts.specs.RowLists
 pub use Rattle.aud_session_facts.specs.ShowsDifference
 -- what is looked up of all clients at once
@@ -32,5 +37,14 @@ pub mod Tail
 pub mod Also
 pub mod Evidence
 pub mod ClientShown
+-- what happened when
+pub mod InOrder
+pub mod ShownTurn
+pub mod SpanShown
+pub mod ChainTurns
+pub mod MarkedTurns
+pub mod Runs
+pub mod ClientEvents
+pub mod Refused
 -- what private contracts alone cite
 pub mod Private

@@ -1,5 +1,6 @@
 //! What an explanation finds of a session, by its pid and the verdict on it: the records that show the fault, the
-//! client that had the session, what that received of what was due, and other entries with the same fault.
+//! client that had the session, what that received of what was due, other entries with the same fault, and what
+//! happened when: its turns, what happened to its client, and its recoveries that were refused.
 //!
 //! With the `sheet` of a recording in which client `c1`, at place 3, got the event of entry 2 twice in its session `P`,
 //! the verdict on which is `verdict`:
@@ -14,6 +15,19 @@
 //! let client = outcome.client.ok_or("no one client")?;
 //! assert_eq!(rt; client.tap, "c1");
 //! assert_eq!(rt; client.conn, Some(2));
+//! ```
+//!
+//! With the `sheet` of a recording in which node `a` opened session `P` and took two entries, and the `turns` of its
+//! certificate:
+//!
+//! ```
+//! use aud_explanation::Happens;
+//! use aud_findings::{client_events, turns_of_chain};
+//!
+//! let shown = turns_of_chain(alloc, &sheet, turns)?;
+//! assert_eq!(rt; shown[0].took, Some((1, 2)));
+//! let events = client_events(alloc, &sheet, &tap, "P", &[0])?;
+//! assert_eq!(rt; events[0].happens, Happens::Reply);
 //! ```
 #![tactic(auto)]
 
@@ -37,6 +51,7 @@ mod ranges;
 mod replies;
 mod rooms;
 mod tail;
+mod timeline;
 mod unordered;
 mod unplaced;
 mod wanted;
@@ -46,3 +61,8 @@ pub use orphan::orphan_in;
 pub use outcome::{AlsoShown, OthersShown, Outcome, outcome_of};
 pub use prepared::{Prepared, PreparedTap};
 pub use replies::numbers_naming;
+pub use timeline::chain::turns_of_chain;
+pub use timeline::events::client_events;
+pub use timeline::laws::{chain_turns_are_shown, joined_events_keep_entries};
+pub use timeline::marks::turns_of_marks;
+pub use timeline::refused::{RefusedShown, refused_shown};

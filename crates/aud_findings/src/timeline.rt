@@ -1,0 +1,12 @@
+//! What happened when, of a session: the turns in which nodes had it, what happened to its client, and the recoveries
+//! of it that were refused.
+pub mod chain;
+pub mod events;
+pub mod laws;
+pub mod marks;
+pub mod order;
+pub mod record_at;
+pub mod refused;
+pub mod runs;
+pub mod shown;
+pub mod span;

@@ -1,0 +1,103 @@
+//! The turns of a session whose records are a chain of turns.
+ghost use Rattle.std.specs.Prelude.{◌≡◌, ◌<◌, IfOk, map};
+ghost use Rattle.std.specs.Option.{option_copied, option_map};
+ghost use Rattle.aud_cert.specs.Certificate.{turn_at};
+ghost use Rattle.aud_findings.specs.ShownTurn.{turn_seen};
+ghost use Rattle.aud_findings.specs.ChainTurns.{chain_span, end_of, span_between, turn_shown, turns_shown};
+
+use crate::timeline::record_at::record_at;
+use crate::timeline::shown::{push_turn, span_shown};
+use crate::timeline::span::{Ends, TurnSpan};
+use aud_cert::Turn;
+use aud_explanation::{TurnBegin, TurnShown};
+use aud_node::Logs;
+use aud_rooms::TurnPlace;
+use aud_rows::Sheet;
+use aud_tap::NodeRec;
+use std::alloc::{AllocError, Global};
+
+/// The turns of a certificate, as a timeline shows them, in their order: by the records of these logs. A turn whose
+/// lines aren't known is left out. It costs the turns, and none of the records between.
+pub fn turns_of_chain<'r>(
+    alloc: Global,
+    sheet: &Sheet<'r, '_>,
+    turns: &[Turn<'_>],
+) -> Result<Vec<TurnShown<'r>>, AllocError>
+    ensures { IfOk result (λ shown. map turn_seen shown.items
+        ≡ turns_shown sheet.now.recording.now sheet.now.lines.now turns.now) }
+{
+    let mut shown = Vec::new(alloc);
+    for turn in turns {
+        push_turn(&mut shown, turn_shown(sheet, turn))?;
+    }
+    Ok(shown)
+}
+
+/// What is shown of the turn.
+fn turn_shown<'r>(sheet: &Sheet<'r, '_>, turn: &Turn<'_>) -> Option<TurnShown<'r>>
+    ensures { option_map turn_seen result
+        ≡ turn_shown sheet.now.recording.now sheet.now.lines.now
+        (turn_at sheet.now.recording.now turn.now) }
+{
+    let logs = sheet.recording.logs();
+    let span = chain_span(logs, turn_at(logs, turn))?;
+    span_shown(sheet, span)
+}
+
+/// Where the turn stands in the logs.
+fn turn_at(logs: &Logs<'_>, turn: &Turn<'_>) -> TurnPlace
+    ensures { result ≡ turn_at logs.now turn.now }
+{
+    TurnPlace {
+        node: logs.place_of(turn.node).unwrap_or(logs.taps().len()),
+        from: turn.from as usize,
+        to: turn.to as usize,
+    }
+}
+
+/// The turn by its first record and its last one; none where the first begins no turn.
+fn chain_span(logs: &Logs<'_>, turn: TurnPlace) -> Option<TurnSpan>
+    ensures { result ≡ chain_span logs.now turn }
+{
+    if turn.to <= turn.from {
+        return None;
+    }
+    let first = record_at(logs, turn.node, turn.from);
+    let last = record_at(logs, turn.node, turn.to - 1);
+    span_between(turn, first, last)
+}
+
+/// The same by these records.
+fn span_between(
+    turn: TurnPlace,
+    first: Option<&NodeRec>,
+    last: Option<&NodeRec>,
+) -> Option<TurnSpan>
+    requires { turn.from < turn.to }
+    ensures { result ≡ span_between turn (option_copied first.entry) (option_copied last.entry) }
+{
+    let (number, begin, pid) = match first? {
+        NodeRec::Opened { pid, .. } => (0, TurnBegin::Open, pid.as_str()),
+        NodeRec::Back { pid, turn } => (*turn, TurnBegin::Back, pid.as_str()),
+        _ => return None,
+    };
+    Some(TurnSpan {
+        turn: number,
+        begin,
+        node: turn.node,
+        first: turn.from,
+        last: turn.to - 1,
+        ends: end_of(pid, last),
+    })
+}
+
+/// How this last record ends a turn of the session.
+fn end_of(pid: &str, last: Option<&NodeRec>) -> Ends
+    ensures { result ≡ end_of pid.now (option_copied last.entry) }
+{
+    match last {
+        Some(NodeRec::Broke { pid: other, .. }) if other.as_str() == pid => Ends::ByBreak,
+        Some(NodeRec::Gone { pid: other }) if other.as_str() == pid => Ends::ByGone,
+        _ => Ends::ByLog,
+    }
+}

@@ -1,0 +1,252 @@
+//! What happened to the client of a session.
+ghost use Rattle.std.specs.Prelude.{◌≡◌, ◌++◌, IfOk, OnOk};
+ghost use Rattle.std.specs.Option.{option_and_then, option_copied, option_map};
+ghost use Rattle.aud_client.specs.Replies.{is_this};
+ghost use Rattle.aud_node.specs.Stream.{position};
+ghost use Rattle.aud_rows.specs.ClientPlaces.{AreOf};
+ghost use Rattle.aud_rows.specs.Seen.{row_seen, says_seen};
+ghost use Rattle.aud_findings.specs.ClientEvents.{answered, asks_for, client_events, event_of, events_of_stays, frame_count, frame_events, happens_of, is_asked, may_be_of, received_events, row_events, stay_events};
+
+use crate::timeline::order::sort_events;
+use crate::timeline::record_at::stay_at;
+use crate::timeline::runs::joined_events;
+use aud_client::{Asked, Stay};
+use aud_explanation::{ClientEvent, Happens};
+use aud_node::Stream;
+use aud_rows::{ClientPlaces, Role, Row, Says, Sheet};
+use std::alloc::{AllocError, Global};
+
+/// What happened to the client of a session in the stays of its tap with these numbers, in the order of the lines: that
+/// it asked for the session, the answer, which is a refusal where it asked for the session and the reply names another
+/// one or nobody, the entries that it received, those of consecutive positions as one, and the loss of the connection.
+/// What came after a refusal is of another session or of none, and left out, as is what has no known line.
+///
+/// The stays are those whose reply names the session, and those that asked for it in vain. It costs these stays.
+pub fn client_events(
+    alloc: Global,
+    sheet: &Sheet<'_, '_>,
+    tap: &ClientPlaces,
+    pid: &str,
+    numbers: &[usize],
+) -> Result<Vec<ClientEvent>, AllocError>
+    requires { AreOf sheet.now.recording.now tap.now }
+    ensures { IfOk result (λ events. events.items
+        ≡ client_events sheet.now.recording.now sheet.now.lines.now tap.now.place pid.now
+        numbers.now) }
+{
+    let mut events = events_of_stays(alloc, sheet, tap, pid, numbers)?;
+    sort_events(&mut events)?;
+    joined_events(alloc, events.as_slice())
+}
+
+/// What happened in the stays, stay after stay.
+fn events_of_stays(
+    alloc: Global,
+    sheet: &Sheet<'_, '_>,
+    tap: &ClientPlaces,
+    pid: &str,
+    numbers: &[usize],
+) -> Result<Vec<ClientEvent>, AllocError>
+    requires { AreOf sheet.now.recording.now tap.now }
+    ensures { IfOk result (λ events. events.items
+        ≡ events_of_stays sheet.now.recording.now sheet.now.lines.now tap.now.place pid.now
+        numbers.now) }
+{
+    let mut events = Vec::new(alloc);
+    for number in numbers {
+        push_stay(&mut events, sheet, tap, pid, *number)?;
+    }
+    Ok(events)
+}
+
+/// Adds what happened in the stay with this number.
+fn push_stay(
+    events: &mut Vec<ClientEvent>,
+    sheet: &Sheet<'_, '_>,
+    tap: &ClientPlaces,
+    pid: &str,
+    number: usize,
+) -> Result<(), AllocError>
+    requires { AreOf sheet.now.recording.now tap.now }
+    ensures { OnOk result (events.new.items
+        ≡ events.old.items
+        ++ stay_events sheet.now.recording.now sheet.now.lines.now tap.now.place pid.now number) }
+{
+    let stay = stay_at(sheet, tap.place, number);
+    let asked = asks_for(pid, stay);
+    let ask = sheet.ask_row(tap, number, Role::Ask);
+    push_row(events, sheet, pid, asked, ask)?;
+    let reply = sheet.reply_row(tap, number, Role::Reply);
+    push_row(events, sheet, pid, asked, reply)?;
+    if may_be_of(pid, stay) {
+        push_received(events, sheet, tap, pid, number)
+    } else {
+        Ok(())
+    }
+}
+
+/// Adds the frames of the stay, and the loss of its connection.
+fn push_received(
+    events: &mut Vec<ClientEvent>,
+    sheet: &Sheet<'_, '_>,
+    tap: &ClientPlaces,
+    pid: &str,
+    number: usize,
+) -> Result<(), AllocError>
+    requires { AreOf sheet.now.recording.now tap.now }
+    ensures { OnOk result (events.new.items
+        ≡ events.old.items
+        ++ received_events sheet.now.recording.now sheet.now.lines.now tap.now.place pid.now
+        number) }
+{
+    push_frames(events, sheet, tap, pid, number)?;
+    let asked = asks_for(pid, stay_at(sheet, tap.place, number));
+    let lost = sheet.lost_row(tap, number, Role::Later);
+    push_row(events, sheet, pid, asked, lost)
+}
+
+/// Adds the frames of the stay.
+fn push_frames(
+    events: &mut Vec<ClientEvent>,
+    sheet: &Sheet<'_, '_>,
+    tap: &ClientPlaces,
+    pid: &str,
+    number: usize,
+) -> Result<(), AllocError>
+    requires { AreOf sheet.now.recording.now tap.now }
+    ensures { OnOk result (events.new.items
+        ≡ events.old.items
+        ++ frame_events sheet.now.recording.now sheet.now.lines.now tap.now.place pid.now number) }
+{
+    let stay = stay_at(sheet, tap.place, number);
+    let asked = asks_for(pid, stay);
+    for frame in 0..frame_count(stay) {
+        let row = sheet.frame_row(tap, number, frame, Role::Later);
+        push_row(events, sheet, pid, asked, row)?;
+    }
+    Ok(())
+}
+
+/// Adds what happened in the row's record, if there is a row.
+fn push_row(
+    events: &mut Vec<ClientEvent>,
+    sheet: &Sheet<'_, '_>,
+    pid: &str,
+    asked: bool,
+    row: Option<Row<'_>>,
+) -> Result<(), AllocError>
+    ensures { OnOk result (events.new.items
+        ≡ events.old.items
+        ++ row_events sheet.now.recording.now.stream pid.now asked
+        (option_map row_seen row.entry)) }
+{
+    if let Some(event) = event_in(sheet.recording.logs().stream(), pid, asked, row) {
+        events.push(event)?;
+    }
+    Ok(())
+}
+
+/// What happened in the row's record, on its line.
+fn event_in(
+    stream: &Stream<'_>,
+    pid: &str,
+    asked: bool,
+    row: Option<Row<'_>>,
+) -> Option<ClientEvent>
+    ensures { result ≡ option_and_then (event_of stream.now pid.now asked)
+        (option_map row_seen row.entry) }
+{
+    let row = row?;
+    let happens = happens_of(stream, pid, asked, row.says)?;
+    Some(ClientEvent {
+        first: row.line,
+        last: row.line,
+        happens,
+    })
+}
+
+/// What happened to the client of the session where a record of a stay says this, which asked for the session or
+/// didn't.
+fn happens_of(stream: &Stream<'_>, pid: &str, asked: bool, says: Says<'_>) -> Option<Happens>
+    ensures { result ≡ happens_of stream.now pid.now asked (says_seen says.entry) }
+{
+    match says {
+        Says::Asks { off, .. } if asked => Some(Happens::Asks {
+            after: after_asked(stream, off),
+        }),
+        Says::Reply { pid: named, .. } => answered(asked, is_session(pid, named)),
+        Says::Got { position, .. } => Some(Happens::Got {
+            from: position,
+            to: position,
+        }),
+        Says::Lost { .. } => Some(Happens::Lost),
+        _ => None,
+    }
+}
+
+/// The position of the entry that was asked for.
+fn after_asked(stream: &Stream<'_>, off: Option<&str>) -> Option<u64>
+    ensures { result ≡ option_and_then (position stream.now)
+        (option_map (λ off. off.now) off.entry) }
+{
+    stream.position(off?)
+}
+
+/// Whether there is a pid, and it is this one.
+fn is_session(pid: &str, named: Option<&str>) -> bool
+    ensures { result ≡ is_this pid.now (option_map (λ named. named.now) named.entry) }
+{
+    match named {
+        Some(named) => named == pid,
+        None => false,
+    }
+}
+
+/// What the answer to a stay is, which asked for the session or didn't, by whether it names the session.
+fn answered(asked: bool, is_session: bool) -> Option<Happens>
+    ensures { result ≡ answered asked is_session }
+{
+    if is_session {
+        return Some(Happens::Reply);
+    }
+    if asked { Some(Happens::Refused) } else { None }
+}
+
+/// Whether there is a stay, and it asked for the session.
+fn asks_for(pid: &str, stay: Option<&Stay<'_>>) -> bool
+    ensures { result ≡ asks_for pid.now (option_copied stay.entry) }
+{
+    match stay {
+        Some(stay) => is_asked(pid, stay.asked.as_ref()),
+        None => false,
+    }
+}
+
+fn is_asked(pid: &str, asked: Option<&Asked>) -> bool
+    ensures { result ≡ is_asked pid.now (option_copied asked.entry) }
+{
+    match asked {
+        Some(asked) => asked.pid.as_str() == pid,
+        None => false,
+    }
+}
+
+/// Whether there is a stay, and what came in it may be of the session.
+fn may_be_of(pid: &str, stay: Option<&Stay<'_>>) -> bool
+    ensures { result ≡ may_be_of pid.now (option_copied stay.entry) }
+{
+    match stay {
+        Some(stay) => stay.reply.is_none() || stay.names(pid),
+        None => false,
+    }
+}
+
+/// How many frames the stay has, if there is one.
+fn frame_count(stay: Option<&Stay<'_>>) -> usize
+    ensures { result ≡ frame_count (option_copied stay.entry) }
+{
+    match stay {
+        Some(stay) => stay.frames.len(),
+        None => 0,
+    }
+}

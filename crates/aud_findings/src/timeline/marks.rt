@@ -1,0 +1,201 @@
+//! The turns of a session by the records that begin or end them, whether or not these are a chain of turns.
+ghost use Rattle.std.specs.Prelude.{◌≡◌, ◌<◌, ◌-◌, ◌^◌, IfOk, map};
+ghost use Rattle.std.specs.Option.{option_map};
+ghost use Rattle.aud_findings.specs.ShownTurn.{turn_seen};
+ghost use Rattle.aud_findings.specs.MarkedTurns.{begins_by, end_open, ended_by, greatest_turn, last_by, last_number, mark_shown, mark_span, marked_turns, next_on, span_from, turn_number, turns_begun};
+
+use crate::timeline::order::sort_turns;
+use crate::timeline::shown::{push_turn, span_shown};
+use crate::timeline::span::{Ends, LastRecord, TurnSpan};
+use aud_explanation::{TurnBegin, TurnShown};
+use aud_node::Logs;
+use aud_rows::Sheet;
+use aud_session_facts::{Mark, TurnMark};
+use std::alloc::{AllocError, Global};
+
+/// The turns that these marks of a session begin, by their numbers, those with one number in the order of the marks,
+/// which stand node after node, and on each by number. A turn ends with the session's next mark on its node where that
+/// is its `break` or the `gone`; else no record says that it ended where another turn follows, and it ends with the
+/// node's log where none does. A turn whose lines aren't known is left out.
+pub fn turns_of_marks<'r>(
+    alloc: Global,
+    sheet: &Sheet<'r, '_>,
+    marks: &[TurnMark],
+) -> Result<Vec<TurnShown<'r>>, AllocError>
+    ensures { IfOk result (λ shown. map turn_seen shown.items
+        ≡ marked_turns sheet.now.recording.now sheet.now.lines.now marks.now) }
+{
+    let mut shown = turns_begun(alloc, sheet, marks)?;
+    sort_turns(&mut shown)?;
+    Ok(shown)
+}
+
+/// The turns in the order of the marks.
+fn turns_begun<'r>(
+    alloc: Global,
+    sheet: &Sheet<'r, '_>,
+    marks: &[TurnMark],
+) -> Result<Vec<TurnShown<'r>>, AllocError>
+    ensures { IfOk result (λ shown. map turn_seen shown.items
+        ≡ turns_begun sheet.now.recording.now sheet.now.lines.now marks.now) }
+{
+    let greatest = greatest_turn(marks);
+    let mut shown = Vec::new(alloc);
+    for number in 0..marks.len() {
+        push_turn(&mut shown, mark_shown(sheet, greatest, marks, number))?;
+    }
+    Ok(shown)
+}
+
+/// What is shown of the turn that the mark with this number begins.
+fn mark_shown<'r>(
+    sheet: &Sheet<'r, '_>,
+    greatest: u16,
+    marks: &[TurnMark],
+    number: usize,
+) -> Option<TurnShown<'r>>
+    requires { number < 2 ^ 64 - 1 }
+    ensures { option_map turn_seen result
+        ≡ mark_shown sheet.now.recording.now sheet.now.lines.now greatest marks.now number }
+{
+    let span = mark_span(sheet.recording.logs(), greatest, marks, number)?;
+    span_shown(sheet, span)
+}
+
+/// The turn that the mark with this number begins.
+fn mark_span(logs: &Logs<'_>, greatest: u16, marks: &[TurnMark], number: usize) -> Option<TurnSpan>
+    requires { number < 2 ^ 64 - 1 }
+    ensures { result ≡ mark_span logs.now greatest marks.now number }
+{
+    let mark = *marks.get(number)?;
+    let next = next_on(mark.place.node, marks.get(number + 1).copied());
+    span_from(logs, greatest, mark, next)
+}
+
+/// The mark, if there is one, and it is on this node.
+fn next_on(node: usize, next: Option<TurnMark>) -> Option<TurnMark>
+    ensures { result ≡ next_on node next }
+{
+    match next {
+        Some(next) if next.place.node == node => Some(next),
+        _ => None,
+    }
+}
+
+/// The turn that the mark begins, where this is the next one on its node.
+fn span_from(
+    logs: &Logs<'_>,
+    greatest: u16,
+    mark: TurnMark,
+    next: Option<TurnMark>,
+) -> Option<TurnSpan>
+    ensures { result ≡ span_from logs.now greatest mark next }
+{
+    let begin = begins_by(mark.mark)?;
+    let turn = turn_number(mark.mark);
+    let log_end = last_number(logs, mark.place.node);
+    let last = last_by(turn, turn < greatest, log_end, next);
+    Some(TurnSpan {
+        turn,
+        begin,
+        node: mark.place.node,
+        first: mark.place.number,
+        last: last.number,
+        ends: last.ends,
+    })
+}
+
+/// By which record the mark begins a turn, if it does.
+fn begins_by(mark: Mark) -> Option<TurnBegin>
+    ensures { result ≡ begins_by mark }
+{
+    match mark {
+        Mark::Open => Some(TurnBegin::Open),
+        Mark::Back { .. } => Some(TurnBegin::Back),
+        Mark::Break { .. } => None,
+        Mark::Gone => None,
+    }
+}
+
+/// The number of the turn that the mark begins, 0 where it begins none.
+fn turn_number(mark: Mark) -> u16
+    ensures { result ≡ turn_number mark }
+{
+    match mark {
+        Mark::Back { turn } => turn,
+        _ => 0,
+    }
+}
+
+/// The greatest number of a turn that one of the marks begins, 0 where none does.
+fn greatest_turn(marks: &[TurnMark]) -> u16
+    ensures { result ≡ greatest_turn marks.now }
+{
+    let mut greatest = 0;
+    for mark in marks {
+        greatest = turn_number(mark.mark).max(greatest);
+    }
+    greatest
+}
+
+/// The number of the last record of the node at this place, 0 where it has none.
+fn last_number(logs: &Logs<'_>, node: usize) -> usize
+    ensures { result ≡ last_number logs.now node }
+{
+    match logs.node(node) {
+        Some(log) => log.recs().len().saturating_sub(1),
+        None => 0,
+    }
+}
+
+/// The last record of this turn, by the next mark of the session on the node, if there is one. The node's log ends with
+/// the record `log_end`.
+fn last_by(turn: u16, is_followed: bool, log_end: usize, next: Option<TurnMark>) -> LastRecord
+    ensures { result ≡ last_by turn is_followed log_end next }
+{
+    let Some(next) = next else {
+        return end_open(is_followed, log_end, log_end);
+    };
+    match ended_by(turn, next.mark) {
+        Some(ends) => LastRecord {
+            number: next.place.number,
+            ends,
+        },
+        None => {
+            let before = next.place.number.saturating_sub(1);
+            end_open(
+                is_followed || begins_by(next.mark).is_some(),
+                before,
+                log_end,
+            )
+        }
+    }
+}
+
+/// How the mark ends this turn of its session, if it does.
+fn ended_by(turn: u16, mark: Mark) -> Option<Ends>
+    ensures { result ≡ ended_by turn mark }
+{
+    match mark {
+        Mark::Break { turn: other } if other == turn => Some(Ends::ByBreak),
+        Mark::Gone => Some(Ends::ByGone),
+        _ => None,
+    }
+}
+
+/// The last record of a turn that no record ends: this one where another turn follows, else the log's last.
+fn end_open(is_followed: bool, before: usize, log_end: usize) -> LastRecord
+    ensures { result ≡ end_open is_followed before log_end }
+{
+    if is_followed {
+        LastRecord {
+            number: before,
+            ends: Ends::Missing,
+        }
+    } else {
+        LastRecord {
+            number: log_end,
+            ends: Ends::ByLog,
+        }
+    }
+}

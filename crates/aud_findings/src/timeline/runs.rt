@@ -1,0 +1,77 @@
+//! Events that go on with one another.
+ghost use Rattle.std.specs.Prelude.{◌≡◌, IfOk, OnOk};
+ghost use Rattle.aud_findings.specs.Runs.{extended, joined, joined_events, joined_happens, run_on};
+
+use aud_explanation::{ClientEvent, Happens};
+use std::alloc::{AllocError, Global};
+
+/// The events, with those joined that go on with one another.
+pub fn joined_events(alloc: Global, events: &[ClientEvent]) -> Result<Vec<ClientEvent>, AllocError>
+    ensures { IfOk result (λ all. all.items ≡ joined_events events.now) }
+{
+    let mut all = Vec::new(alloc);
+    for event in events {
+        extend(&mut all, *event)?;
+    }
+    Ok(all)
+}
+
+/// Adds the event: to the last one, where it goes on with that.
+fn extend(events: &mut Vec<ClientEvent>, event: ClientEvent) -> Result<(), AllocError>
+    ensures { OnOk result (events.new.items ≡ extended events.old.items event) }
+{
+    let Some(last) = events.pop() else {
+        events.push(event)?;
+        return Ok(());
+    };
+    match joined(last, event) {
+        Some(joined) => {
+            events.push(joined)?;
+        }
+        None => {
+            events.push(last)?;
+            events.push(event)?;
+        }
+    }
+    Ok(())
+}
+
+/// The two as one, where the second goes on with the first.
+fn joined(event: ClientEvent, next: ClientEvent) -> Option<ClientEvent>
+    ensures { result ≡ joined event next }
+{
+    let happens = joined_happens(event.last == next.first, event.happens, next.happens)?;
+    Some(ClientEvent {
+        first: event.first,
+        last: next.last,
+        happens,
+    })
+}
+
+/// What happens as one.
+fn joined_happens(one_line: bool, happens: Happens, next: Happens) -> Option<Happens>
+    ensures { result ≡ joined_happens one_line happens next }
+{
+    match (happens, next) {
+        (
+            Happens::Got { from, to },
+            Happens::Got {
+                from: after,
+                to: last,
+            },
+        ) => { run_on(from, to, after, last) }
+        (Happens::Lost, Happens::Lost) if one_line => Some(Happens::Lost),
+        _ => None,
+    }
+}
+
+/// The entries from one position to another, and those from a position on that is the next one.
+fn run_on(from: u64, to: u64, after: u64, last: u64) -> Option<Happens>
+    ensures { result ≡ run_on from to after last }
+{
+    if to.checked_add(1) == Some(after) {
+        Some(Happens::Got { from, to: last })
+    } else {
+        None
+    }
+}

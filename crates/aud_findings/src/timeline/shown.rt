@@ -1,0 +1,99 @@
+//! Turns, as a timeline shows them.
+ghost use Rattle.std.specs.Prelude.{◌≡◌, ◌++◌, OnOk, map, option_to_list};
+ghost use Rattle.std.specs.Option.{option_map};
+ghost use Rattle.aud_findings.specs.ShownTurn.{turn_seen};
+ghost use Rattle.aud_findings.specs.SpanShown.{cursor_past, end_shown, span_shown, took_between, took_until};
+
+use crate::timeline::span::{Ends, TurnSpan};
+use aud_explanation::{TurnEnd, TurnShown};
+use aud_node::Logs;
+use aud_rows::Sheet;
+use std::alloc::AllocError;
+
+/// The turn with its lines and cursors; none where it has no such record, or its lines aren't known.
+pub(crate) fn span_shown<'r>(sheet: &Sheet<'r, '_>, span: TurnSpan) -> Option<TurnShown<'r>>
+    ensures { option_map turn_seen result
+        ≡ span_shown sheet.now.recording.now sheet.now.lines.now span }
+{
+    let logs = sheet.recording.logs();
+    let tap = logs.taps().get(span.node)?;
+    let begin_line = sheet.lines.line_of(span.node, span.first)?;
+    let low = cursor_past(logs, span.node, span.first)?;
+    let last_line = sheet.lines.line_of(span.node, span.last);
+    let high = cursor_past(logs, span.node, span.last);
+    let end = end_shown(span.ends, last_line, high)?;
+    Some(TurnShown {
+        turn: span.turn,
+        node: tap.name.as_str(),
+        begin: span.begin,
+        begin_line,
+        low,
+        took: took_until(low, end),
+        end,
+    })
+}
+
+/// The cursor of the node at this place after its record with this number.
+fn cursor_past(logs: &Logs<'_>, node: usize, number: usize) -> Option<u64>
+    ensures { result ≡ cursor_past logs.now node number }
+{
+    logs.node(node)?.cursor_after(number)
+}
+
+/// The first position and the last one from the one cursor to the other.
+fn took_between(low: u64, high: u64) -> Option<(u64, u64)>
+    ensures { result ≡ took_between low high }
+{
+    if low < high {
+        Some((low + 1, high))
+    } else {
+        None
+    }
+}
+
+/// The first position and the last one that a node took in a turn that begins at this cursor and ends so.
+fn took_until(low: u64, end: TurnEnd) -> Option<(u64, u64)>
+    ensures { result ≡ took_until low end }
+{
+    match end {
+        TurnEnd::Break { high, .. } | TurnEnd::Gone { high, .. } | TurnEnd::Log { high, .. } => {
+            took_between(low, high)
+        }
+        TurnEnd::Missing => None,
+    }
+}
+
+/// How a turn ends whose last record stands on this line and leaves this cursor, if they are known.
+fn end_shown(ends: Ends, line: Option<u64>, high: Option<u64>) -> Option<TurnEnd>
+    ensures { result ≡ end_shown ends line high }
+{
+    match ends {
+        Ends::ByBreak => Some(TurnEnd::Break {
+            line: line?,
+            high: high?,
+        }),
+        Ends::ByGone => Some(TurnEnd::Gone {
+            line: line?,
+            high: high?,
+        }),
+        Ends::ByLog => Some(TurnEnd::Log {
+            line: line?,
+            high: high?,
+        }),
+        Ends::Missing => Some(TurnEnd::Missing),
+    }
+}
+
+/// Adds the turn, if there is one.
+pub(crate) fn push_turn<'r>(
+    turns: &mut Vec<TurnShown<'r>>,
+    turn: Option<TurnShown<'r>>,
+) -> Result<(), AllocError>
+    ensures { OnOk result (map turn_seen turns.new.items
+        ≡ map turn_seen turns.old.items ++ option_to_list (option_map turn_seen turn.entry)) }
+{
+    if let Some(turn) = turn {
+        turns.push(turn)?;
+    }
+    Ok(())
+}

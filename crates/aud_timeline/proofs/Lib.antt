@@ -1,5 +1,0 @@
-pub mod OrderLemmas
-pub mod RunLemmas
-pub mod NumberLemmas
-pub mod ChainLemmas
-pub mod KeptLemmas

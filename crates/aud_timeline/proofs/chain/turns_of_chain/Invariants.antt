@@ -1,7 +1,0 @@
-use Rattle.std.proofs.Common.{◌≡◌, map, take}
-use Rattle.aud_timeline.specs.ShownTurn.{turn_seen}
-use Rattle.aud_timeline.specs.ChainTurns.{turns_shown}
-use Rattle.aud_timeline.proofs.chain.turns_of_chain.Given as goal
-
-abbrev pub invariant-loop-turn : goal.invariant-loop-turn
-invariant-loop-turn l = map turn_seen l.shown.items ≡ turns_shown l.sheet.recording.now l.sheet.lines.now (take l.turn-index l.turns)

@@ -1,6 +1,0 @@
-use Rattle.std.proofs.Common.{◌≡◌, map, take}
-use Rattle.aud_timeline.specs.Refused.{missed_entries, missed_seen}
-use Rattle.aud_timeline.proofs.refused.missed_entries.Given as goal
-
-abbrev pub invariant-loop-position : goal.invariant-loop-position
-invariant-loop-position l = map missed_seen l.entries.items ≡ missed_entries l.stream (take l.position-index l.positions)
