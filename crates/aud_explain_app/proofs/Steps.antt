@@ -22,7 +22,7 @@ use Rattle.aud_explain_app.specs.Explained.{IsExplained}
 use Rattle.aud_explain_app.specs.CausesTold.{AreCausesTold}
 use Rattle.aud_explain_app.specs.Texts.{AddTexts, IsTextOf, causes_in, text_in}
 use Rattle.aud_explain_app.specs.declared.sessions.ToldText.{ToldText}
-use Rattle.aud_summary.specs.declared.causes.CausesTold.{CausesTold}
+use Rattle.aud_explain_app.specs.declared.summary.causes.CausesTold.{CausesTold}
 use Rattle.aud_explain_app.specs.Written.{IsWritten}
 use Rattle.aud_explain_app.specs.declared.explained.Explained.{Explained}
 use Rattle.aud_explain_app.specs.Asked.{refused_of}

@@ -4,8 +4,8 @@ use Rattle.aud_node.specs.Lists.{is_empty}
 use Rattle.aud_node.specs.Stream.{Text}
 use Rattle.aud_causes.specs.declared.found.CauseFound.{CauseFound}
 use Rattle.aud_causes.specs.Candidates.{refuted}
-use Rattle.aud_summary.specs.declared.causes.CausesTold.{CausesTold}
-use Rattle.aud_summary.specs.Causes.{name_of}
+use Rattle.aud_explain_app.specs.declared.summary.causes.CausesTold.{CausesTold}
+use Rattle.aud_explain_app.specs.Summary.Causes.{name_of}
 use Rattle.aud_verdict.specs.declared.verdict.Verdict.{Verdict}
 use Rattle.aud_explain_app.specs.declared.explained.Explained.{Explained}
 use Rattle.aud_explain_app.specs.declared.refused_told.RefusedTold.{RefusedTold}

@@ -26,15 +26,15 @@ use Rattle.aud_session_facts.specs.Recoveries.{is_granted, is_refused, recoverie
 use Rattle.aud_verdict.specs.declared.verdict.SessionVerdict.{SessionVerdict}
 use Rattle.aud_verdict.specs.Output.{OutputSeen}
 use Rattle.aud_verdict.specs.YesOf.{is_yes}
-use Rattle.aud_summary.specs.declared.causes.CausesTold.{CausesTold}
-use Rattle.aud_summary.specs.declared.summary.Summary.{Summary}
-use Rattle.aud_summary.specs.Answers.{is_no, is_unobserved}
-use Rattle.aud_summary.specs.ByClass.{classes_of}
-use Rattle.aud_summary.specs.ByFault.{faults_of}
-use Rattle.aud_summary.specs.Json.{summary_json}
-use Rattle.aud_summary.specs.Meaning.{says_nothing}
-use Rattle.aud_summary.specs.Tails.{has_tail, tail_of}
-use Rattle.aud_summary.specs.Text.{summary_text}
+use Rattle.aud_explain_app.specs.declared.summary.causes.CausesTold.{CausesTold}
+use Rattle.aud_explain_app.specs.declared.summary.Summary.{Summary}
+use Rattle.aud_explain_app.specs.Summary.Answers.{is_no, is_unobserved}
+use Rattle.aud_explain_app.specs.Summary.ByClass.{classes_of}
+use Rattle.aud_explain_app.specs.Summary.ByFault.{faults_of}
+use Rattle.aud_explain_app.specs.Summary.Json.{summary_json}
+use Rattle.aud_explain_app.specs.Summary.Meaning.{says_nothing}
+use Rattle.aud_explain_app.specs.Summary.Tails.{has_tail, tail_of}
+use Rattle.aud_explain_app.specs.Summary.Text.{summary_text}
 use Rattle.aud_verdict.specs.Verdicts.{AreVerdicts}
 use Rattle.aud_explain_app.specs.RefusedLine.{refused_output}
 use Rattle.aud_explain_app.specs.Page.{IsPage}

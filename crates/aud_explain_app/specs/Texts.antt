@@ -10,7 +10,7 @@ use Rattle.aud_explain_app.specs.Explained.{IsExplained}
 use Rattle.aud_explain_app.specs.Written.{IsWritten}
 use Rattle.aud_input.specs.declared.input_file.InputFile.{InputFile}
 use Rattle.aud_input.specs.TapLines.{TapLines}
-use Rattle.aud_summary.specs.declared.causes.CausesTold.{CausesTold}
+use Rattle.aud_explain_app.specs.declared.summary.causes.CausesTold.{CausesTold}
 use Rattle.aud_explain_app.specs.Alike.{Telling}
 use Rattle.aud_explain_app.specs.Asked.{refused_of}
 

@@ -1,12 +1,12 @@
 //! What the explanation of a session tells of causes.
 ghost use Rattle.std.specs.Prelude.{◌≡◌, ◌++◌, IfOk, OnOk, map};
-ghost use Rattle.aud_summary.specs.Causes.{name_of};
+ghost use Rattle.aud_explain_app.specs.Summary.Causes.{name_of};
 ghost use Rattle.aud_explain_app.specs.CausesTold.{AreCausesTold, is_unknown, names_of, names_of_refusals};
 
 use crate::explained::Explained;
 use crate::refused_told::RefusedTold;
+use crate::summary::causes::CausesTold;
 use aud_causes::{CauseFound, refuted};
-use aud_summary::CausesTold;
 use aud_verdict::Verdict;
 use std::alloc::{AllocError, Global};
 

@@ -13,6 +13,18 @@
 //! let mut output = Watched::new(Vec::new(alloc));
 //! let status = explain(&rt, alloc, keys, &mut files, &mut output, &options, None)?;
 //! ```
+//!
+//! The summary has the figures of the recording: [`summary_of`] counts them, and [`summary_text`] and [`summary_json`]
+//! write them, and how many sessions have each cause. With the `recording` of `examples/bundle_a.jsonl`, its one verdict
+//! a yes, no recovery asked for, and `input` the 11 lines of the bundle:
+//!
+//! ```
+//! use aud_explain_app::summary_of;
+//!
+//! let summary = summary_of(recording, verdicts, &[], input);
+//! assert_eq!(rt; (summary.sessions, summary.yes, summary.no), (1, 1, 0));
+//! assert_eq!(rt; (summary.entries.all, summary.entries.recoverable), (1, 1));
+//! ```
 #![tactic(auto)]
 
 mod alike;
@@ -36,8 +48,18 @@ mod sessions;
 mod shown;
 mod status;
 mod strangers;
+mod summary;
 mod turns;
 mod written;
 
 pub use fault::{ExplainFault, Unexplained};
 pub use program::explain;
+pub use summary::causes::{CausesTold, cause_names};
+pub use summary::classes::Classes;
+pub use summary::entries::Entries;
+pub use summary::faults::Faults;
+pub use summary::json::summary_json;
+pub use summary::recoveries::Recoveries;
+pub use summary::tails::Tails;
+pub use summary::text::summary_text;
+pub use summary::{Input, Summary, says_nothing, summary_of};

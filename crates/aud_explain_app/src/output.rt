@@ -21,15 +21,16 @@ use crate::prepared::prepared_for;
 use crate::sessions::push_sessions;
 use crate::status::status_by;
 use crate::strangers::add_strangers;
+use crate::summary::causes::CausesTold;
+use crate::summary::json::summary_json;
+use crate::summary::text::summary_text;
+use crate::summary::{Input, Summary, says_nothing, summary_of};
 use crate::written::{Form, Layout};
 use aud_cli::{ExplainOptions, OutputForm};
 use aud_client::Recording;
 use aud_desk::{AuditFault, OpenGate, Report, audit_with};
 use aud_input::{InputFile, RecordLines, Recorded, Size};
 use aud_rows::Sheet;
-use aud_summary::{
-    CausesTold, Input, Summary, says_nothing, summary_json, summary_of, summary_text,
-};
 use aud_verdict::{Output, SessionVerdict, Status};
 use std::alloc::{AllocError, Global};
 use std::hash::RandomState;

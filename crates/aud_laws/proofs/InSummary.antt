@@ -5,7 +5,7 @@ use Rattle.std.specs.Str.{bytes_eq}
 use Rattle.aud_causes.specs.declared.cause.Cause.{Cause}
 use Rattle.aud_causes.specs.declared.cause.Cause.TheVariants.{MissingBreak, NodeBehindBreak}
 use Rattle.aud_causes.specs.Words.{id_text}
-use Rattle.aud_summary.specs.Causes.{cause_names}
+use Rattle.aud_explain_app.specs.Summary.Causes.{cause_names}
 
 -- of each alike
 pub named_in_summary : (cause : Cause) → list_any (bytes_eq (id_text cause)) cause_names ≡ true

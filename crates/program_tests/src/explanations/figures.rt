@@ -1,5 +1,5 @@
 //! The figures of a large recording, as text and as JSON.
-use aud_summary::{
+use aud_explain_app::{
     CausesTold, Classes, Entries, Faults, Input, Recoveries, Summary, Tails, summary_json,
     summary_text,
 };

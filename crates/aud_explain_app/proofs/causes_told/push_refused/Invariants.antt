@@ -1,5 +1,5 @@
 use Rattle.std.proofs.Common.{◌≡◌, ◌++◌, map, take}
-use Rattle.aud_summary.specs.Causes.{name_of}
+use Rattle.aud_explain_app.specs.Summary.Causes.{name_of}
 use Rattle.aud_explain_app.specs.CausesTold.{names_of_refusals}
 use Rattle.aud_explain_app.proofs.causes_told.push_refused.Given as goal
 

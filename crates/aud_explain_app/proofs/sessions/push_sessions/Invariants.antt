@@ -1,5 +1,5 @@
 use Rattle.std.proofs.Common.{ℕ, ◌-◌, List, drop, length, map, string_bytes}
-use Rattle.aud_summary.specs.declared.causes.CausesTold.{CausesTold}
+use Rattle.aud_explain_app.specs.declared.summary.causes.CausesTold.{CausesTold}
 use Rattle.aud_explain_app.specs.Alike.{telling_of}
 use Rattle.aud_explain_app.specs.Texts.{AddTexts}
 use Rattle.aud_explain_app.proofs.sessions.push_sessions.Given as goal

@@ -1,0 +1,37 @@
+-- No summary's JSON has a float.
+use Rattle.std.proofs.Common.{◌≡◌, ℕ, Bool, true, false, ◌||◌, List, [], ◌∷◌, fold, refl}
+use Rattle.std.specs.Ordering.{nat_cmp, match_ordering}
+use Rattle.std.specs.Cmp.Lexicographic.{slice_cmp}
+use Rattle.std.specs.declared.cmp.Ordering.TheVariants.{Less, Equal, Greater}
+use Rattle.serde_json.specs.Data.{Data, Members, no_members, member, number, unsigned, put}
+use Rattle.serde_json.specs.Written.{has_float, members_have_float}
+use Rattle.aud_node.specs.Stream.{Text}
+use Rattle.aud_explain_app.specs.declared.summary.causes.CausesTold.{CausesTold}
+use Rattle.aud_explain_app.specs.declared.summary.Summary.{Summary}
+use Rattle.aud_explain_app.specs.Summary.Causes.{cause_names, count_with}
+use Rattle.aud_explain_app.specs.Summary.Json.{causes_data, summary_data, with_cause}
+
+-- neither holds where one of both does not
+or-parts : (a b : Bool) → (a || b) ≡ false → (a ≡ false) × (b ≡ false)
+or-parts true b h = absurd (cc)
+or-parts false b h = (refl, h)
+
+-- one number more
+number-put : (k : List ℕ) (n : ℕ) (ms : Members) → members_have_float ms ≡ false → members_have_float (put k (number (unsigned n)) ms) ≡ false
+number-put k n no_members rest = refl
+number-put k n (member l e ms) rest =
+    let parts = or-parts (has_float e) (members_have_float ms) rest in
+    let d = number (unsigned n) in
+    elim (slice_cmp nat_cmp k l) as (λ o. members_have_float (match_ordering o (member k d (member l e ms)) (member l d ms) (member l e (put k d ms))) ≡ false) [
+      | Less ↦ rest
+      | Equal ↦ parts.1
+      | Greater ↦ rw (parts.0, number-put k n ms parts.1) refl
+    ]
+
+-- more causes
+causes-put : (told : List CausesTold) (names : List Text) (ms : Members) → members_have_float ms ≡ false → members_have_float (fold (with_cause told) ms names) ≡ false
+causes-put told [] ms rest = rest
+causes-put told (name ∷ names) ms rest = causes-put told names (put name (number (unsigned (count_with told name))) ms) (number-put name (count_with told name) ms rest)
+
+pub summary-plain : (s : Summary) (told : List CausesTold) → has_float (summary_data s told) ≡ false
+summary-plain s told = rw (causes-put told cause_names no_members refl) refl

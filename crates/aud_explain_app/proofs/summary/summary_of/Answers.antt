@@ -1,0 +1,17 @@
+use Rattle.std.proofs.Common.{◌∙◌, ap, arith}
+use Rattle.aud_explain_app.specs.Summary.ByClass.{sum_of_classes}
+use Rattle.aud_explain_app.specs.Summary.ByFault.{sum_of_faults}
+use Rattle.aud_explain_app.proofs.Sums.{yes-and-no, granted-and-refused, by-class, by-fault}
+use Rattle.aud_explain_app.proofs.summary.summary_of.Goals as goal
+
+pub returns-clause-answered : goal.returns-clause-answered
+returns-clause-answered c = omega (arith, yes-and-no c.args.verdicts.now)
+
+pub returns-clause-by_class : goal.returns-clause-by_class
+returns-clause-by_class c = let sum = by-class c.args.verdicts.now in ap sum_of_classes c.classes_in.ensures ∙ cc
+
+pub returns-clause-by_fault : goal.returns-clause-by_fault
+returns-clause-by_fault c = let sum = by-fault c.args.verdicts.now in ap sum_of_faults c.faults_in.ensures ∙ cc
+
+pub returns-clause-all_recoveries : goal.returns-clause-all_recoveries
+returns-clause-all_recoveries c = omega (arith, granted-and-refused c.args.recoveries.now)

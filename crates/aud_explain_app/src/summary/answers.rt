@@ -1,0 +1,41 @@
+//! How many sessions are answered yes, how many no, and how many no client named.
+ghost use Rattle.std.specs.Prelude.{◌≡◌, count_by};
+ghost use Rattle.aud_verdict.specs.YesOf.{is_yes};
+ghost use Rattle.aud_explain_app.specs.Summary.Answers.{is_no, is_unnamed, is_unobserved};
+
+use aud_client::Recording;
+use aud_verdict::SessionVerdict;
+
+/// How many are yes.
+pub(crate) fn count_yes(verdicts: &[SessionVerdict]) -> usize
+    ensures { result ≡ count_by is_yes verdicts.now }
+{
+    verdicts.iter().filter(|verdict| verdict.is_yes()).count()
+}
+
+/// How many are no.
+pub(crate) fn count_no(verdicts: &[SessionVerdict]) -> usize
+    ensures { result ≡ count_by is_no verdicts.now }
+{
+    verdicts.iter().filter(|verdict| !verdict.is_yes()).count()
+}
+
+/// How many are on a session that no client named.
+pub(crate) fn count_unobserved(recording: &Recording<'_>, verdicts: &[SessionVerdict]) -> usize
+    ensures { result ≡ count_by (is_unobserved recording.now) verdicts.now }
+{
+    let mut count = 0;
+    for verdict in verdicts {
+        if is_unnamed(recording, verdict.pid.as_str()) {
+            count += 1;
+        }
+    }
+    count
+}
+
+/// Whether no client's reply names the session.
+fn is_unnamed(recording: &Recording<'_>, pid: &str) -> bool
+    ensures { result ≡ is_unnamed recording.now pid.now }
+{
+    recording.naming(pid).is_empty()
+}

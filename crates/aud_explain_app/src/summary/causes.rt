@@ -1,0 +1,120 @@
+//! How many sessions have each cause.
+ghost use Rattle.std.specs.Prelude.{◌≡◌, ◌+◌, map, min};
+ghost use Rattle.aud_explain_app.specs.Summary.Causes.{cause_names, count_unknown, count_with, name_of, sessions_if, tells};
+
+/// What the explanation of a session told of causes.
+#[derive(Debug, Drop)]
+pub struct CausesTold {
+    /// Their names; one may stand there several times.
+    pub ids: Vec<&'static str>,
+    /// Whether causes of the session's fault are known, and none of them holds.
+    pub is_unknown: bool,
+    /// Of how many other sessions the explanation is, too.
+    pub others: usize,
+}
+
+static NAMES: [&str; 51] = [
+    "node-behind-break",
+    "sent-again-after-replay",
+    "rooms-at-break",
+    "skipped-in-window",
+    "stale-offset",
+    "body-came-twice",
+    "offset-of-another-session",
+    "frame-not-recorded",
+    "unknown-offset",
+    "no-offset",
+    "lost-live",
+    "doubled-live",
+    "swapped-live",
+    "another-encoder",
+    "attachments-reordered",
+    "another-event",
+    "altered",
+    "log-ended-early",
+    "late-leave",
+    "before-birth",
+    "extra-live",
+    "join-missing",
+    "leave-missing",
+    "recovery-not-recorded",
+    "missing-break",
+    "cleared-after-break",
+    "turn-not-stored",
+    "recovered-twice",
+    "node-not-tapped",
+    "open-not-recorded",
+    "no-start",
+    "restarted-in-old-log",
+    "entries-skipped-by-node",
+    "entry-taken-again",
+    "not-in-stream",
+    "two-taps",
+    "no-client-tap",
+    "reply-missing",
+    "sid-differs",
+    "namespace-differs",
+    "not-a-packet",
+    "cut-before-reply",
+    "reply-without-pid",
+    "tap-began-late",
+    "out-after-answer",
+    "second-connect",
+    "after-disconnect",
+    "session-over",
+    "asked-too-early",
+    "node-ended-in-turn",
+    "never-broken",
+];
+
+/// The names of all causes, in the order in which a summary has them.
+#[tactic(auto, unfolding(crate::specs::Summary::Causes::cause_names))]
+pub fn cause_names() -> &'static [&'static str]
+    ensures { map name_of result.now ≡ cause_names }
+{
+    &NAMES
+}
+
+/// How many sessions have the cause of this name, each counted once; the greatest number of 64 bits where there are more.
+pub(crate) fn count_with(told: &[CausesTold], id: &str) -> u64
+    ensures { result ≡ count_with told.now id.now }
+{
+    let mut count: u64 = 0;
+    for one in told {
+        count = counted(count, tells(one, id), one);
+    }
+    count
+}
+
+/// Of how many sessions no known cause of their fault holds; the greatest number of 64 bits where there are more.
+pub(crate) fn count_unknown(told: &[CausesTold]) -> u64
+    ensures { result ≡ count_unknown told.now }
+{
+    let mut count: u64 = 0;
+    for one in told {
+        count = counted(count, one.is_unknown, one);
+    }
+    count
+}
+
+/// The count, and where it passes the sessions of this explanation.
+fn counted(count: u64, passes: bool, told: &CausesTold) -> u64
+    ensures { result ≡ min (count + sessions_if passes told.now) u64.MAX }
+{
+    if !passes {
+        return count;
+    }
+    count.saturating_add(1).saturating_add(told.others as u64)
+}
+
+/// Whether the explanation told the cause of this name.
+fn tells(told: &CausesTold, id: &str) -> bool
+    ensures { result ≡ tells id.now told.now }
+{
+    for name in &told.ids {
+        if *name == id {
+            return true;
+        }
+    }
+    false
+}

@@ -1,0 +1,56 @@
+//! The events at the end of what was due that did not come.
+ghost use Rattle.std.specs.Prelude.{◌≡◌, count_by, min, sum_by};
+ghost use Rattle.aud_explain_app.specs.Summary.Tails.{has_tail, tail_in, tail_of};
+
+use aud_cert::Fault;
+use aud_verdict::{SessionVerdict, Verdict};
+
+/// The tails: the events at the end of what was due that did not come.
+#[derive(Clone, Copy, Debug, PartialEq, Eq, Drop)]
+pub struct Tails {
+    /// How many sessions have one.
+    pub sessions: usize,
+    /// How many events are in them; the greatest number of 64 bits where there are more.
+    pub events: u64,
+}
+
+/// The tails of the verdicts.
+pub(crate) fn tails_in(verdicts: &[SessionVerdict]) -> Tails
+    ensures sessions { result.sessions ≡ count_by has_tail verdicts.now }
+    ensures events { result.events ≡ min (sum_by tail_of verdicts.now) u64.MAX }
+{
+    Tails {
+        sessions: count_tails(verdicts),
+        events: count_events(verdicts),
+    }
+}
+
+fn count_tails(verdicts: &[SessionVerdict]) -> usize
+    ensures { result ≡ count_by has_tail verdicts.now }
+{
+    verdicts
+        .iter()
+        .filter(|verdict| tail_in(&verdict.verdict) > 0)
+        .count()
+}
+
+fn count_events(verdicts: &[SessionVerdict]) -> u64
+    ensures { result ≡ min (sum_by tail_of verdicts.now) u64.MAX }
+{
+    let mut events: u64 = 0;
+    for verdict in verdicts {
+        events = events.saturating_add(tail_in(&verdict.verdict));
+    }
+    events
+}
+
+/// How many events are in the tail, whether or not it was asked for.
+fn tail_in(verdict: &Verdict) -> u64
+    ensures { result ≡ tail_in verdict.now }
+{
+    match verdict {
+        Verdict::Yes { tail, .. } => *tail as u64,
+        Verdict::No(Fault::Tail(count)) => *count,
+        Verdict::No(_) => 0,
+    }
+}

@@ -1,7 +1,0 @@
-use Rattle.std.proofs.Common.{◌≡◌, ◌++◌, flat_map, map, string_bytes, take}
-use Rattle.aud_summary.specs.Causes.{name_of}
-use Rattle.aud_summary.specs.Text.{cause_line}
-use Rattle.aud_summary.proofs.text.push_each_cause.Given as goal
-
-abbrev pub invariant-loop-name : goal.invariant-loop-name
-invariant-loop-name l = string_bytes l.out ≡ string_bytes l.fn.out ++ flat_map (cause_line l.told) (map name_of (take l.name-index l.names))
