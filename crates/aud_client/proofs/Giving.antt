@@ -170,6 +170,11 @@ module _ (placed : List PlacedPacket) where
       go None e rest = rest
       go (Some x) e rest = record { packet = q.1; stands = h.0; gives_it = e }
 
+  -- the first packet
+  first_stands : (s : List PlacedPacket) → Each (Contains placed) s → OneNamespace s → StandsAt placed (unwrap_or (first_of (numbers_in s)) 0) (namespace_of (forgotten s))
+  first_stands [] h one = absurd one.1
+  first_stands (q ∷ s) h one = record { packet = q.1; stands = h.0; is_in = refl }
+
   -- the last packet
   last_after : (n : List ℕ) (q : PlacedPacket) (s : List PlacedPacket) → Each (Contains placed) (q ∷ s) → Each (InText n) (q ∷ s) → StandsAt placed (unwrap_or (last_number (numbers_in (q ∷ s))) 0) n
   last_after n q [] h one = record { packet = q.1; stands = h.0; is_in = one.0 }
@@ -182,7 +187,7 @@ module _ (placed : List PlacedPacket) where
   module _ (stream : List StreamRec) where
     -- all that a stay tells
     stay_given : (c : ℕ) (s : List PlacedPacket) → Each (Contains placed) s → OneNamespace s → AreRecordsOf stream placed (places_of stream s) (stay_of stream c (forgotten s))
-    stay_given c s h one = record { last_is = last_stands s h one; frames_are = all_given (frame_of stream) s h; ask_is = ask_given s h; reply_is = reply_given s h }
+    stay_given c s h one = record { first_is = first_stands s h one; last_is = last_stands s h one; frames_are = all_given (frame_of stream) s h; ask_is = ask_given s h; reply_is = reply_given s h }
 
     stays_given : (c : ℕ) (ss : List (List PlacedPacket)) → Each (Each (Contains placed)) ss → Each OneNamespace ss
         → AllZip (AreRecordsOf stream placed) (map (places_of stream) ss) (map (λ stay. stay_of stream c (forgotten stay)) ss)

@@ -50,7 +50,7 @@ module _ (stream : List StreamRec) (c : ℕ) where
   -- a packet that begins a stay
   pub keeps-begin : {T E : Type 0} (r : Result T E) (st nw : Stays) (done : List StaySeen) (told : List PlacesSeen) (l : List PlacedPacket) (q : PlacedPacket) → place_for st q.1 ≡ None
       → OnOk r (nw.stays.items ≡ st.stays.items ++ grown stream (empty_stay c (namespace q.1)) q.1 ∷ [])
-      → (length st.places.items ≡ length st.stays.items → OnOk r (nw.places.items ≡ st.places.items ++ grown_places stream no_places q ∷ []))
+      → (length st.places.items ≡ length st.stays.items → OnOk r (nw.places.items ≡ st.places.items ++ grown_places stream (no_places q.0) q ∷ []))
       → OnOk r ((n : List ℕ) → open_at nw n ≡ cond (bytes_eq (namespace q.1) n) (cond (is_disconnect q.1) None (Some (length st.stays.items))) (open_at st n))
       → Keeps stream c st done told l → OnOk r (Keeps stream c nw done told (l ++ q ∷ []))
   keeps-begin (Err x) st nw done told l q e list records opens keeps = tt
@@ -59,8 +59,8 @@ module _ (stream : List StreamRec) (c : ℕ) where
       record {
         keeps_stays = subst (KeepsStays stream c nw done) (sym (forgotten-append l (q ∷ []))) (kept-begin stream c {E = E} (Ok x) st nw done (forgotten l) q.1 e list opens keeps.keeps_stays);
         places_are =
-            records (as_many st done told l keeps) ∙ ap (λ ts. ts ++ grown_places stream no_places q ∷ []) keeps.places_are
-            ∙ append_assoc told (map (places_of stream) (placed_stays l)) (grown_places stream no_places q ∷ [])
+            records (as_many st done told l keeps) ∙ ap (λ ts. ts ++ grown_places stream (no_places q.0) q ∷ []) keeps.places_are
+            ∙ append_assoc told (map (places_of stream) (placed_stays l)) (grown_places stream (no_places q.0) q ∷ [])
             ∙ ap (λ t. told ++ (map (places_of stream) (placed_stays l) ++ t ∷ [])) (sym (places_of-first stream q))
             ∙ ap (λ ts. told ++ ts) (sym (map-append (places_of stream) (placed_stays l) ((q ∷ []) ∷ [])))
             ∙ ap (λ ss. told ++ map (places_of stream) ss) (sym (placed-begins [] l q (begins-forgotten l q ∙ starts)));

@@ -83,20 +83,20 @@ ask-more stream s q = grind (arith, has_reply s, replied s (q ∷ []), unreplied
 -- ---- all of it
 
 -- the same records
-same_places : (l m : ℕ) (a b r u : Option ℕ) (g h : List ℕ) → m ≡ l → a ≡ b → r ≡ u → g ≡ h
-    → ◌≡◌ {A = PlacesSeen} (record { last = m; ask = a; reply = r; frames = g }) (record { last = l; ask = b; reply = u; frames = h })
-same_places l m a b r u g h z v w x = λ i. record { last = z i; ask = v i; reply = w i; frames = x i }
+same_places : (f l m : ℕ) (a b r u : Option ℕ) (g h : List ℕ) → m ≡ l → a ≡ b → r ≡ u → g ≡ h
+    → ◌≡◌ {A = PlacesSeen} (record { first = f; last = m; ask = a; reply = r; frames = g }) (record { first = f; last = l; ask = b; reply = u; frames = h })
+same_places f l m a b r u g h z v w x = λ i. record { first = f; last = z i; ask = v i; reply = w i; frames = x i }
 
 -- a stay of one packet
-pub places_of-first : (stream : List StreamRec) (q : PlacedPacket) → places_of stream (q ∷ []) ≡ grown_places stream no_places q
-places_of-first stream q = same_places q.0 q.0 _ _ _ _ _ _ refl (asks-more [] q) (first-alone (record_of reply_at q)) refl
+pub places_of-first : (stream : List StreamRec) (q : PlacedPacket) → places_of stream (q ∷ []) ≡ grown_places stream (no_places q.0) q
+places_of-first stream q = same_places q.0 q.0 q.0 _ _ _ _ _ _ refl (asks-more [] q) (first-alone (record_of reply_at q)) refl
 
 -- a stay with one packet more
 pub places_of-more : (stream : List StreamRec) (s : List PlacedPacket) (q : PlacedPacket) → goes_on_placed s q ≡ true
     → places_of stream (s ++ q ∷ []) ≡ grown_places stream (places_of stream s) q
 places_of-more stream [] q e = absurd (false≢true e)
 places_of-more stream (x ∷ s) q e =
-    same_places q.0 _ _ _ _ _ _ _
+    same_places x.0 q.0 _ _ _ _ _ _ _
     (ap (λ l. unwrap_or (last_number l) 0) (map-append (λ (r : ℕ × TapPacket). r.0) (x ∷ s) (q ∷ [])) ∙ ap (λ o. unwrap_or o 0) (last-more (numbers_in (x ∷ s)) q.0))
     (ask-more stream (x ∷ s) q)
     (ap first_of (records-more reply_at (x ∷ s) q) ∙ first-may (records_of reply_at (x ∷ s)) (record_of reply_at q))
@@ -133,19 +133,19 @@ either false o = refl
 -- by a packet of the server
 server_grows : {X Y : Type 0} (t : PlacesSeen) (n : ℕ) (r : Option X) (f : Option Y) → (is_some r ≡ true → f ≡ None)
     → ◌≡◌ {A = PlacesSeen} (with_part t n (cond (is_some r) part.Reply (cond (is_some f) part.Frame part.Other)))
-    (record { last = n; ask = cond (is_some t.reply) t.ask t.ask; reply = option_or t.reply (option_map (λ x. n) r); frames = t.frames ++ cons_option (option_map (λ x. n) f) [] })
+    (record { first = t.first; last = n; ask = cond (is_some t.reply) t.ask t.ask; reply = option_or t.reply (option_map (λ x. n) r); frames = t.frames ++ cons_option (option_map (λ x. n) f) [] })
 server_grows {Y = Y} t n (Some x) f none =
-    same_places n n _ _ _ _ _ _ refl (sym (either (is_some t.reply) t.ask)) refl
+    same_places t.first n n _ _ _ _ _ _ refl (sym (either (is_some t.reply) t.ask)) refl
     (sym (append-nil t.frames) ∙ ap (λ (o : Option Y). t.frames ++ cons_option (option_map (λ x. n) o) []) (sym (none refl)))
-server_grows t n None (Some y) none = same_places n n _ _ _ _ _ _ refl (sym (either (is_some t.reply) t.ask)) (sym (or_none t.reply)) refl
-server_grows t n None None none = same_places n n _ _ _ _ _ _ refl (sym (either (is_some t.reply) t.ask)) (sym (or_none t.reply)) (sym (append-nil t.frames))
+server_grows t n None (Some y) none = same_places t.first n n _ _ _ _ _ _ refl (sym (either (is_some t.reply) t.ask)) (sym (or_none t.reply)) refl
+server_grows t n None None none = same_places t.first n n _ _ _ _ _ _ refl (sym (either (is_some t.reply) t.ask)) (sym (or_none t.reply)) (sym (append-nil t.frames))
 
 -- by one of the client
 client_grows : {X : Type 0} (t : PlacesSeen) (n : ℕ) (a : Option X)
     → ◌≡◌ {A = PlacesSeen} (with_part t n (cond (is_some a) part.Ask part.Other))
-    (record { last = n; ask = cond (is_some t.reply) t.ask (option_or (option_map (λ x. n) a) t.ask); reply = option_or t.reply None; frames = t.frames ++ [] })
-client_grows t n (Some x) = same_places n n _ _ _ _ _ _ refl refl (sym (or_none t.reply)) (sym (append-nil t.frames))
-client_grows t n None = same_places n n _ _ _ _ _ _ refl (sym (either (is_some t.reply) t.ask)) (sym (or_none t.reply)) (sym (append-nil t.frames))
+    (record { first = t.first; last = n; ask = cond (is_some t.reply) t.ask (option_or (option_map (λ x. n) a) t.ask); reply = option_or t.reply None; frames = t.frames ++ [] })
+client_grows t n (Some x) = same_places t.first n n _ _ _ _ _ _ refl refl (sym (or_none t.reply)) (sym (append-nil t.frames))
+client_grows t n None = same_places t.first n n _ _ _ _ _ _ refl (sym (either (is_some t.reply) t.ask)) (sym (or_none t.reply)) (sym (append-nil t.frames))
 
 -- the records grow by what a packet is to the stay
 pub grown_by : (stream : List StreamRec) (t : PlacesSeen) (q : PlacedPacket) → with_part t q.0 (part_of stream q.1) ≡ grown_places stream t q

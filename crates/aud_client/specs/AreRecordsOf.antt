@@ -34,9 +34,10 @@ pub record StandsAt (placed : List PlacedPacket) (number : ℕ) (nsp : Text) : T
   pub is_in : namespace packet ≡ nsp
 
 -- the records are those of the stay, in a tap with these packets, where this is the stream: a packet of its namespace
--- stands at the last; there are as many frames; and what stands at each record gives the frame, what was asked, the
--- reply
+-- stands at the first, and one at the last; there are as many frames; and what stands at each record gives the frame,
+-- what was asked, the reply
 pub record AreRecordsOf (stream : List StreamRec) (placed : List PlacedPacket) (places : PlacesSeen) (stay : StaySeen) : Type 0 where
+  pub first_is : StandsAt placed places.first stay.nsp
   pub last_is : StandsAt placed places.last stay.nsp
   pub frames_are : AllZip (GivesAt placed (frame_of stream)) places.frames stay.frames
   pub ask_is : MayGiveAt placed ask_of places.ask stay.asked

@@ -9,8 +9,9 @@ use Rattle.aud_client.specs.Stays.{is_reply}
 use Rattle.aud_client.specs.StaySeen.{reply_at, ask_of, frame_of}
 use Rattle.aud_client.specs.PlacedStays.{PlacedPacket, placed_stays}
 
--- the records of a stay: of its last packet, of the ask that counts and of the reply, and of each frame
+-- the records of a stay: of its first packet and of its last, of the ask that counts and of the reply, and of each frame
 pub record PlacesSeen : Type 0 where
+  pub first : ℕ
   pub last : ℕ
   pub ask : Option ℕ
   pub reply : Option ℕ
@@ -43,6 +44,7 @@ numbers_in placed = map (λ (q : ℕ × TapPacket). q.0) placed
 abbrev pub places_of : List StreamRec → List PlacedPacket → PlacesSeen
 places_of stream stay =
     record {
+      first = unwrap_or (first_of (numbers_in stay)) 0;
       last = unwrap_or (last_number (numbers_in stay)) 0;
       ask = last_number (records_of ask_of (placed_before_reply stay));
       reply = first_of (records_of reply_at stay);

@@ -12,6 +12,8 @@ use std::marker::Model;
 /// takes 4 bytes.
 #[derive(Drop)]
 pub struct StayPlaces {
+    /// Of the first packet that belongs to the stay.
+    pub first: u32,
     /// Of the last packet that belongs to the stay.
     pub last: u32,
     /// Of the CONNECT that asked for a recovery: of the last one before the reply, if several did.
@@ -27,16 +29,17 @@ impl Model for StayPlaces {
 
     ghost Value = { PlacesSeen };
 
-    ghost view = { λ p. record { last = p.last; ask = p.ask; reply = p.reply; frames = p.frames.items } };
+    ghost view = { λ p. record { first = p.first; last = p.last; ask = p.ask; reply = p.reply; frames = p.frames.items } };
 }
 
 impl StayPlaces {
-    /// Those of a stay before its first packet.
-    pub(crate) fn new(alloc: Global) -> StayPlaces
-        ensures { result ≡ no_places }
+    /// Those of a stay before its first packet, which is whole at the record with this number.
+    pub(crate) fn new(alloc: Global, first: u32) -> StayPlaces
+        ensures { result ≡ no_places first }
     {
         StayPlaces {
-            last: 0,
+            first,
+            last: first,
             ask: None,
             reply: None,
             frames: Vec::new(alloc),

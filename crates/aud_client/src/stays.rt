@@ -142,30 +142,32 @@ impl<'a> Stays<'a> {
             (packet_seen placed.entry.packet) ∷ []) }
         ensures places { length self.old.places.items ≡ length self.old.stays.items
             → OnOk result (self.new.places.items
-            ≡ self.old.places.items ++ grown_places stream.now no_places (placed_seen placed.entry)
-            ∷ []) }
+            ≡ self.old.places.items ++ grown_places stream.now (no_places placed.entry.number)
+            (placed_seen placed.entry) ∷ []) }
         ensures open { OnOk result (BeginsAt (packet_seen placed.entry.packet)
             (length self.old.stays.items) self.old self.new) }
     {
         let place = self.stays.len();
-        self.open_stay(c, &placed.packet)?;
+        self.open_stay(c, &placed)?;
         self.grow(scratch, stream, place, placed, here)
     }
 
     /// A stay in the packet's namespace comes after the others. It goes on, unless the packet ends it.
-    fn open_stay(&mut self, c: u64, packet: &TapPacket<'a>) -> Result<(), AllocError>
+    fn open_stay(&mut self, c: u64, placed: &Placed<'a>) -> Result<(), AllocError>
         ensures stays { OnOk result (self.new.stays.items
-            ≡ self.old.stays.items ++ empty_stay c (namespace (packet_seen packet.now)) ∷ []) }
+            ≡ self.old.stays.items
+            ++ empty_stay c (namespace (packet_seen placed.now.packet)) ∷ []) }
         ensures places { OnOk result (self.new.places.items
-            ≡ self.old.places.items ++ no_places ∷ []) }
-        ensures open { OnOk result (BeginsAt (packet_seen packet.now)
+            ≡ self.old.places.items ++ no_places placed.now.number ∷ []) }
+        ensures open { OnOk result (BeginsAt (packet_seen placed.now.packet)
             (length self.old.stays.items) self.old self.new) }
     {
         let place = self.stays.len();
-        self.mark(packet, place)?;
+        let first = in_four_bytes(placed.number)?;
+        self.mark(&placed.packet, place)?;
         self.stays
-            .push(Stay::new(self.alloc, c, namespace(packet)))?;
-        self.places.push(StayPlaces::new(self.alloc))?;
+            .push(Stay::new(self.alloc, c, namespace(&placed.packet)))?;
+        self.places.push(StayPlaces::new(self.alloc, first))?;
         Ok(())
     }
 

@@ -49,9 +49,9 @@ abbrev pub part_of : List StreamRec → TapPacket → Part
 part_of stream p =
     if is_some (reply_at p) then Reply else if is_some (ask_of p) then Ask else if is_some (frame_of stream p) then Frame else Other
 
--- the records of a stay without packets
-abbrev pub no_places : PlacesSeen
-no_places = record { last = 0; ask = None; reply = None; frames = [] }
+-- the records of a stay without packets, the first of which will stand at this record
+abbrev pub no_places : ℕ → PlacesSeen
+no_places first = record { first = first; last = first; ask = None; reply = None; frames = [] }
 
 -- the ask that counts, after one packet more: none after the reply
 abbrev pub ask_after : PlacesSeen → PlacedPacket → Option ℕ
@@ -61,6 +61,7 @@ ask_after t q = if is_some t.reply then t.ask else option_or (record_of ask_of q
 abbrev pub grown_places : List StreamRec → PlacesSeen → PlacedPacket → PlacesSeen
 grown_places stream t q =
     record {
+      first = t.first;
       last = q.0;
       ask = ask_after t q;
       reply = option_or t.reply (record_of reply_at q);

@@ -85,7 +85,9 @@ fn text_or<'a>(text: Option<&'a Text>, words: &'a str) -> &'a str {
 /// A line for each stay: the records at which its packets stand.
 fn tell_places(stays: &[StayPlaces], out: &mut Told) {
     for places in stays {
-        out.text("last ");
+        out.text("first ");
+        out.show(&places.first);
+        out.text(" last ");
         out.show(&places.last);
         out.text(" ask ");
         out.debug(&places.ask);

@@ -65,8 +65,8 @@ c1 {"k":"in","t":"451-[\"f\",{\"_placeholder\":true,\"num\":0},\"5-0\"]"}
 c1 {"k":"inb","b":"AQI="}
 @CLIENT_LEAVES
 ? places c1
-last 2 ask None reply Some(1) frames [2]
-last 11 ask Some(6) reply Some(8) frames [7, 10]
+first 1 last 2 ask None reply Some(1) frames [2]
+first 5 last 11 ask Some(6) reply Some(8) frames [7, 10]
 "#,
     // A replay without its reply is an orphan.
     r#"@STREAM FIRST REPLY EVENT_1 SECOND ASK EVENT_2

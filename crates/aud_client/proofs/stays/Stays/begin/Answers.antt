@@ -18,7 +18,8 @@ returns-clause-places c = λ as_many.
     let stays = c.args.self.now.stays.items in
     let place = c.len-place.result in
     let s = empty_stay c.args.c (namespace (packet_seen c.args.placed.packet)) in
+    let t = no_places c.args.placed.number in
     let at : place ≡ length stays = omega arith in
     let there = ap (λ ss. slice_get ss place) c.in_ok-open_stay.ensures.stays ∙ ap (slice_get (stays ++ s ∷ [])) at ∙ after_these stays [] s in
     changed_last c.grow.result c.args.self.now.places.items c.open_stay.new.self.places.items c.grow.new.self.places.items place
-    no_places (grown_places c.args.stream.now no_places (placed_seen c.args.placed)) (omega (arith, as_many)) c.in_ok-open_stay.ensures.places (c.grow.ensures.places s no_places there)
+    t (grown_places c.args.stream.now t (placed_seen c.args.placed)) (omega (arith, as_many)) c.in_ok-open_stay.ensures.places (c.grow.ensures.places s t there)
