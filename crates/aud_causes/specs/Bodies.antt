@@ -1,5 +1,5 @@
 -- What came twice because a body of polling did.
-use Rattle.std.specs.Prelude.{ℕ, ◌-◌, Bool, true, false, not, ◌&&◌, List, [], ◌∷◌, length, Option, Some, None, if◌then◌else◌, nat_eq, nat_lt, slice_get, take}
+use Rattle.std.specs.Prelude.{ℕ, ◌-◌, Bool, true, false, not, ◌&&◌, List, [], ◌∷◌, length, Option, Some, None, is_some, if◌then◌else◌, nat_eq, nat_lt, slice_get, take}
 use Rattle.std.specs.Option.{option_and_then, option_or}
 use Rattle.std.specs.Str.{bytes_eq}
 use Rattle.aud_tap.specs.declared.records.ClientRec.{ClientRec}
@@ -32,6 +32,10 @@ places_at c client = places_told (transcript_at c client)
     places_told None = []
     places_told (Some transcript) = transcript.places
 
+-- the record with this number of the client's tap at this place
+abbrev pub client_record : Cluster → ℕ → ℕ → Option ClientRec
+client_record c client number = option_and_then (λ (recs : List ClientRec). slice_get recs number) (client_at c client)
+
 -- the record of the frame that stands there
 abbrev pub record_there : List PlacesSeen → FramePlace → Option ℕ
 record_there places at = slice_get (frames_there (slice_get places at.stay)) at.frame
@@ -51,24 +55,18 @@ last_record places last (number ∷ numbers) = last_record places (option_or (la
 
 -- ---- the cause
 
--- the record is a body of polling
-abbrev pub is_poll : Option ClientRec → Bool
-is_poll (Some (Poll t)) = true
-is_poll _ = false
-
--- both records of the client's tap at this place are one, which is a body of polling
-abbrev pub is_one_body : Cluster → ℕ → Option ℕ → Option ℕ → Bool
-is_one_body c client (Some first) (Some last) =
-    nat_eq first last && is_poll (option_and_then (λ (recs : List ClientRec). slice_get recs first) (client_at c client))
-is_one_body c client _ _ = false
-
 -- the text of the record with this number of the client's tap at this place, if that is a body of polling
 abbrev pub body_at : Cluster → ℕ → ℕ → Option Text
-body_at c client number = body_in (option_and_then (λ (recs : List ClientRec). slice_get recs number) (client_at c client))
+body_at c client number = body_in (client_record c client number)
   where
     body_in : Option ClientRec → Option Text
     body_in (Some (Poll t)) = Some t
     body_in _ = None
+
+-- both records of the client's tap at this place are one, which is a body of polling
+abbrev pub is_one_body : Cluster → ℕ → Option ℕ → Option ℕ → Bool
+is_one_body c client (Some first) (Some last) = nat_eq first last && is_some (body_at c client first)
+is_one_body c client _ _ = false
 
 -- both are there, and are the same
 abbrev pub are_same : Option Text → Option Text → Bool

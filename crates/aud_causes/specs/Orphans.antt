@@ -1,21 +1,18 @@
 -- What events may come from of which nobody knows the session.
-use Rattle.std.specs.Prelude.{ℕ, suc, ◌+◌, Bool, true, false, not, ◌&&◌, ◌||◌, List, [], ◌∷◌, length, Option, Some, None, codes, drop, is_none, is_some, if◌then◌else◌, nat_eq, slice_get, take, unwrap_or}
+use Rattle.std.specs.Prelude.{ℕ, suc, Bool, true, false, not, ◌&&◌, List, [], ◌∷◌, Option, Some, None, codes, is_none, is_some, if◌then◌else◌, nat_eq, slice_get, take}
 use Rattle.std.specs.List.{starts_with}
 use Rattle.std.specs.Option.{option_and_then}
 use Rattle.std.specs.Str.{bytes_eq}
 use Rattle.aud_tap.specs.declared.records.ClientRec.{ClientRec}
 use Rattle.aud_tap.specs.declared.records.ClientRec.TheVariants.{Conn, TextIn, TextOut}
 use Rattle.aud_node.specs.Cluster.{Cluster}
-use Rattle.aud_node.specs.NodeTaps.{client_at}
-use Rattle.aud_node.specs.Stream.{Text}
-use Rattle.aud_client.specs.Received.{TranscriptSeen, transcript_at}
 use Rattle.aud_client.specs.Replies.{ReplySeen}
 use Rattle.aud_client.specs.StayPlaces.{PlacesSeen}
 use Rattle.aud_client.specs.StaySeen.{AskedSeen, StaySeen}
 use Rattle.aud_session_facts.specs.Recoveries.{stays_at}
 use Rattle.aud_causes.specs.declared.cause.Cause.{Cause}
 use Rattle.aud_causes.specs.declared.cause.Cause.TheVariants.{TapBeganLate, CutBeforeReply, ReplyWithoutPid, OutAfterAnswer, SecondConnect, AfterDisconnect}
-use Rattle.aud_causes.specs.Bodies.{places_at}
+use Rattle.aud_causes.specs.Bodies.{client_record, places_at}
 use Rattle.aud_causes.specs.Delivery.{cause_if}
 use Rattle.aud_causes.specs.Differences.{cause_and}
 
@@ -45,55 +42,23 @@ is_disconnect _ = false
 
 -- the last record of the stay with this number of the client's tap at this place
 abbrev pub last_of_stay : Cluster → ℕ → ℕ → Option ClientRec
-last_of_stay c client number =
-    option_and_then
-    (λ (p : PlacesSeen). option_and_then (λ (recs : List ClientRec). slice_get recs p.last) (client_at c client))
-    (option_and_then (λ (t : TranscriptSeen). slice_get t.places number) (transcript_at c client))
+last_of_stay c client number = option_and_then (λ (p : PlacesSeen). client_record c client p.last) (slice_get (places_at c client) number)
 
--- ---- the client's CONNECT
+-- ---- how it began
 
--- what ends the namespace in a packet's text: a comma, or the end
-abbrev pub is_end : Option ℕ → Bool
-is_end None = true
-is_end (Some byte) = nat_eq byte 44
+-- the record is the client's
+abbrev pub is_sent : Option ClientRec → Bool
+is_sent (Some (TextOut t)) = true
+is_sent _ = false
 
--- what follows a packet's type is of the namespace: it names it; the main one needs no name
-abbrev pub is_of_namespace : Text → Text → Bool
-is_of_namespace nsp rest =
-    if bytes_eq nsp (codes "/") then not (starts_with nat_eq rest (codes "/")) else starts_with nat_eq rest nsp && is_end (slice_get rest (length nsp))
+-- the first record of the stay with this number of the client's tap at this place
+abbrev pub first_of_stay : Cluster → ℕ → ℕ → Option ClientRec
+first_of_stay c client number = option_and_then (λ (p : PlacesSeen). client_record c client p.first) (slice_get (places_at c client) number)
 
--- the text is a CONNECT to the namespace: Engine.IO's digit 4, and 0 (Socket.IO protocol 5, "Connection to a namespace")
-abbrev pub says_connect : Text → Text → Bool
-says_connect nsp t = starts_with nat_eq t (codes "40") && is_of_namespace nsp (drop 2 t)
-
--- the client's CONNECT to the namespace came so far on the connection, after this record too
-abbrev pub connects_by : Text → Bool → ClientRec → Bool
-connects_by nsp so_far (Conn c) = false
-connects_by nsp so_far (TextOut t) = so_far || says_connect nsp t
-connects_by nsp so_far _ = so_far
-
--- the same after these
-abbrev pub connects : Text → Bool → List ClientRec → Bool
-connects nsp so_far [] = so_far
-connects nsp so_far (rec ∷ recs) = connects nsp (connects_by nsp so_far rec) recs
-
--- the records of the client's tap at this place
-abbrev pub records_at : Cluster → ℕ → List ClientRec
-records_at c client = unwrap_or (client_at c client) []
-
--- the last record of the stay with this number, if it is given; the tap's first one where it isn't
-abbrev pub begin_after : List PlacesSeen → Option ℕ → ℕ
-begin_after places before = last_in (option_and_then (slice_get places) before)
-  where
-    last_in : Option PlacesSeen → ℕ
-    last_in None = 0
-    last_in (Some p) = p.last
-
--- among the records of the stay with this number, in front of the record with this one, is the client's CONNECT: they
--- stand past the last one of the stay before it in its connection and namespace
-abbrev pub connects_before : Cluster → ℕ → ℕ → StaySeen → ℕ → Bool
-connects_before c client number stay end =
-    connects stay.nsp false (drop (begin_after (places_at c client) (stay_before (stays_at c client) number stay)) (take end (records_at c client)))
+-- the stay begins with the client's CONNECT: with a packet of the client, since one that begins with its DISCONNECT has
+-- nothing else
+abbrev pub is_asked_first : Cluster → ℕ → ℕ → Bool
+is_asked_first c client number = is_sent (first_of_stay c client number)
 
 -- ---- the tap's begin
 
@@ -102,17 +67,11 @@ abbrev pub begins : ℕ → Option ClientRec → Bool
 begins conn (Some (Conn c)) = nat_eq c conn
 begins conn _ = false
 
--- the number of the record that follows the stay's last one
-abbrev pub end_of : Option PlacesSeen → ℕ
-end_of None = 0
-end_of (Some p) = p.last + 1
-
 -- nothing says that the tap has the connection from its beginning: the stay is the tap's first one, in its first
--- connection, and has no CONNECT of the client
+-- connection, and doesn't begin with the client's CONNECT
 abbrev pub began_late : Cluster → ℕ → ℕ → StaySeen → Bool
 began_late c client number stay =
-    nat_eq number 0 && begins stay.c (slice_get (records_at c client) 0)
-    && not (connects_before c client number stay (end_of (slice_get (places_at c client) number)))
+    nat_eq number 0 && begins stay.c (client_record c client 0) && not (is_asked_first c client number)
 
 -- ---- the causes
 
@@ -121,16 +80,7 @@ abbrev pub without_reply : ℕ → Option AskedSeen → Bool → Option Cause
 without_reply number (Some asked) late = Some (CutBeforeReply number)
 without_reply number None late = cause_if late (TapBeganLate number)
 
--- the record of the reply, if there are both
-abbrev pub reply_place : Option PlacesSeen → ℕ
-reply_place None = 0
-reply_place (Some p) = unwrap_or p.reply 0
-
--- the client's CONNECT stands in the stay with this number in front of its reply
-abbrev pub is_asked_first : Cluster → ℕ → ℕ → StaySeen → Bool
-is_asked_first c client number stay = connects_before c client number stay (reply_place (slice_get (places_at c client) number))
-
--- in the stay before no session was asked for, and no CONNECT of the client stands in front of its reply
+-- in the stay before no session was asked for, and it doesn't begin with the client's CONNECT
 abbrev pub out_after_answer : ℕ → ℕ → StaySeen → Bool → Option Cause
 out_after_answer number before stay asked_first = cause_if (is_none stay.asked && not asked_first) (OutAfterAnswer before number)
 
@@ -143,7 +93,7 @@ answered_causes number before stay asked_first =
 abbrev pub before_causes : Cluster → ℕ → ℕ → ℕ → Bool → Option StaySeen → List Cause
 before_causes c client number before true stay = AfterDisconnect before number ∷ []
 before_causes c client number before false None = []
-before_causes c client number before false (Some stay) = answered_causes number before stay (is_asked_first c client before stay)
+before_causes c client number before false (Some stay) = answered_causes number before stay (is_asked_first c client before)
 
 -- the same of the stay with this number, if it is given
 abbrev pub causes_of_before : Cluster → ℕ → ℕ → Option ℕ → List Cause

@@ -1,7 +1,7 @@
 //! What came twice because a body of polling did.
 ghost use Rattle.std.specs.Prelude.{◌≡◌, None, slice_get};
 ghost use Rattle.std.specs.Option.{option_copied};
-ghost use Rattle.aud_causes.specs.Bodies.{are_equal_bodies, are_same, body_at, body_before, body_twice, equal_bodies, frames_there, is_one_body, is_poll, last_of, last_record, places_at, record_of, record_there};
+ghost use Rattle.aud_causes.specs.Bodies.{are_equal_bodies, are_same, body_at, body_before, body_twice, client_record, equal_bodies, frames_there, is_one_body, last_of, last_record, places_at, record_of, record_there};
 
 use crate::cause::Cause;
 use crate::facts::Facts;
@@ -86,10 +86,21 @@ fn are_same(first: Option<&Text>, again: Option<&Text>) -> bool
 fn body_at<'a>(recording: &Recording<'a>, client: usize, number: usize) -> Option<&'a Text>
     ensures { option_copied result ≡ body_at recording.now client number }
 {
-    match recording.logs().client(client)?.get(number) {
+    match client_record(recording, client, number) {
         Some(ClientRec::Poll { t }) => Some(t),
         _ => None,
     }
+}
+
+/// The record with this number of the client's tap at this place.
+pub(crate) fn client_record<'a>(
+    recording: &Recording<'a>,
+    client: usize,
+    number: usize,
+) -> Option<&'a ClientRec>
+    ensures { option_copied result ≡ client_record recording.now client number }
+{
+    recording.logs().client(client)?.get(number)
 }
 
 /// Where the two frames stand in two stays, and what came of the session from the first one on, up to the later stay,
@@ -182,20 +193,5 @@ fn is_one_body(
     let Some(last) = last else {
         return false;
     };
-    if first != last {
-        return false;
-    }
-    match recording.logs().client(client) {
-        Some(recs) => is_poll(recs.get(first)),
-        None => false,
-    }
-}
-
-fn is_poll(rec: Option<&ClientRec>) -> bool
-    ensures { result ≡ is_poll (option_copied rec.entry) }
-{
-    match rec {
-        Some(ClientRec::Poll { .. }) => true,
-        _ => false,
-    }
+    first == last && body_at(recording, client, first).is_some()
 }

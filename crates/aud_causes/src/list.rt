@@ -1,5 +1,5 @@
-//! Causes that are collected, and the front and the rest of a list.
-ghost use Rattle.std.specs.Prelude.{◌≡◌, ◌++◌, IfOk, OnOk, drop, option_to_list, take};
+//! Causes that are collected, and the front of a list.
+ghost use Rattle.std.specs.Prelude.{◌≡◌, ◌++◌, IfOk, OnOk, option_to_list, take};
 ghost use Rattle.aud_causes.specs.Delivery.{held};
 
 use crate::cause::Cause;
@@ -32,12 +32,4 @@ pub(crate) fn front_of<T>(items: &[T], count: usize) -> &[T]
 {
     let (front, _) = items.split_at(count.min(items.len()));
     front
-}
-
-/// What follows the first of these, so many; nothing where there are not so many.
-pub(crate) fn rest_after<T>(items: &[T], count: usize) -> &[T]
-    ensures { result.now ≡ drop count items.now }
-{
-    let (_, rest) = items.split_at(count.min(items.len()));
-    rest
 }

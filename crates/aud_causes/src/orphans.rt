@@ -1,14 +1,14 @@
 //! What events may come from of which nobody knows the session.
-ghost use Rattle.std.specs.Prelude.{◌≡◌, ◌++◌, IfOk, None, OnOk, codes, false, nat_eq, slice_get};
+ghost use Rattle.std.specs.Prelude.{◌≡◌, ◌++◌, IfOk, None, OnOk, codes, nat_eq, slice_get};
 ghost use Rattle.std.specs.List.{starts_with};
 ghost use Rattle.std.specs.Option.{option_copied};
 ghost use Rattle.aud_session_facts.specs.Recoveries.{stays_at};
-ghost use Rattle.aud_causes.specs.Orphans.{answered_causes, began_late, begin_after, begins, causes_of_before, connects, connects_before, connects_by, end_of, is_asked_first, is_beside, is_disconnect, is_end, is_of_namespace, last_beside, last_of_stay, orphan_causes, out_after_answer, records_at, replied_causes, reply_place, says_connect, stay_before, unreplied_causes, without_reply};
+ghost use Rattle.aud_causes.specs.Orphans.{answered_causes, began_late, begins, causes_of_before, first_of_stay, is_asked_first, is_beside, is_disconnect, last_beside, last_of_stay, orphan_causes, out_after_answer, replied_causes, stay_before, unreplied_causes, without_reply};
 
-use crate::bodies::places_at;
+use crate::bodies::{client_record, places_at};
 use crate::cause::Cause;
-use crate::list::{front_of, held, push_cause, rest_after};
-use aud_client::{Recording, Stay, StayPlaces};
+use crate::list::{front_of, held, push_cause};
+use aud_client::{Recording, Stay};
 use aud_tap::{ClientRec, Text};
 use std::alloc::{AllocError, Global};
 
@@ -97,15 +97,14 @@ fn without_reply(number: usize, stay: &Stay<'_>, late: bool) -> Option<Cause>
 }
 
 /// Whether nothing says that the tap has the connection from its beginning: the stay is the tap's first one, in its
-/// first connection, and has no CONNECT of the client. It costs the records of the connection up to the stay's last one.
+/// first connection, and doesn't begin with the client's CONNECT.
 fn began_late(recording: &Recording<'_>, client: usize, number: usize, stay: &Stay<'_>) -> bool
     ensures { result ≡ began_late recording.now client number stay.now }
 {
-    if number != 0 || !begins(stay.c, records_at(recording, client).first()) {
+    if number != 0 || !begins(stay.c, client_record(recording, client, 0)) {
         return false;
     }
-    let end = end_of(places_at(recording, client).get(number));
-    !connects_before(recording, client, number, stay, end)
+    !is_asked_first(recording, client, number)
 }
 
 /// Whether the record begins the connection with this number.
@@ -118,106 +117,26 @@ fn begins(conn: u64, rec: Option<&ClientRec>) -> bool
     }
 }
 
-/// The number of the record that follows the stay's last one.
-fn end_of(places: Option<&StayPlaces>) -> usize
-    ensures { result ≡ end_of (option_copied places.entry) }
+/// Whether the stay with this number of the client's tap at this place begins with the client's CONNECT.
+fn is_asked_first(recording: &Recording<'_>, client: usize, number: usize) -> bool
+    ensures { result ≡ is_asked_first recording.now client number }
 {
-    match places {
-        Some(places) => places.last as usize + 1,
-        None => 0,
+    match first_of_stay(recording, client, number) {
+        Some(ClientRec::TextOut { .. }) => true,
+        _ => false,
     }
 }
 
-/// The records of the client's tap at this place.
-fn records_at<'a>(recording: &Recording<'a>, client: usize) -> &'a [ClientRec]
-    ensures { result.now ≡ records_at recording.now client }
-{
-    match recording.logs().client(client) {
-        Some(recs) => recs,
-        None => &[],
-    }
-}
-
-/// Whether the client's CONNECT is among the records of the stay with this number, in front of the record with this one.
-/// They stand past the last one of the stay before it in its connection and namespace.
-fn connects_before(
-    recording: &Recording<'_>,
+/// The first record of the stay with this number of the client's tap at this place.
+fn first_of_stay<'a>(
+    recording: &Recording<'a>,
     client: usize,
     number: usize,
-    stay: &Stay<'_>,
-    end: usize,
-) -> bool
-    ensures { result ≡ connects_before recording.now client number stay.now end }
+) -> Option<&'a ClientRec>
+    ensures { option_copied result ≡ first_of_stay recording.now client number }
 {
-    let before = stay_before(recording, client, number, stay);
-    let begin = begin_after(places_at(recording, client), before);
-    connects(
-        stay.nsp,
-        rest_after(front_of(records_at(recording, client), end), begin),
-    )
-}
-
-/// The last record of the stay with this number, if it is given; the tap's first one where it isn't.
-fn begin_after(places: &[StayPlaces], before: Option<usize>) -> usize
-    ensures { result ≡ begin_after places.now before }
-{
-    let Some(before) = before else {
-        return 0;
-    };
-    match places.get(before) {
-        Some(places) => places.last as usize,
-        None => 0,
-    }
-}
-
-/// Whether the client's CONNECT to the namespace is among these records, after the last `conn` of them.
-fn connects(nsp: &str, recs: &[ClientRec]) -> bool
-    ensures { result ≡ connects nsp.now false recs.now }
-{
-    let mut so_far = false;
-    for rec in recs {
-        so_far = connects_by(nsp, so_far, rec);
-    }
-    so_far
-}
-
-/// Whether it came so far on the connection, after this record too.
-fn connects_by(nsp: &str, so_far: bool, rec: &ClientRec) -> bool
-    ensures { result ≡ connects_by nsp.now so_far rec.now }
-{
-    match rec {
-        ClientRec::Conn { .. } => false,
-        ClientRec::TextOut { t } => so_far || says_connect(nsp, t),
-        _ => so_far,
-    }
-}
-
-/// Whether the text is a CONNECT to the namespace.
-fn says_connect(nsp: &str, text: &Text) -> bool
-    ensures { result ≡ says_connect nsp.now text.now }
-{
-    let bytes = text.as_str().as_bytes();
-    bytes.starts_with(b"40") && is_of_namespace(nsp, rest_after(bytes, 2))
-}
-
-/// Whether what follows a packet's type is of the namespace: it names it; the main one needs no name.
-fn is_of_namespace(nsp: &str, rest: &[u8]) -> bool
-    ensures { result ≡ is_of_namespace nsp.now rest.now }
-{
-    if nsp == "/" {
-        return !rest.starts_with(b"/");
-    }
-    rest.starts_with(nsp.as_bytes()) && is_end(rest.get(nsp.len()))
-}
-
-/// Whether this ends the namespace: a comma, or the end.
-fn is_end(byte: Option<&u8>) -> bool
-    ensures { result ≡ is_end (option_copied byte.entry) }
-{
-    match byte {
-        Some(byte) => *byte == b',',
-        None => true,
-    }
+    let places = places_at(recording, client).get(number)?;
+    client_record(recording, client, places.first as usize)
 }
 
 /// The number of the last stay before it in its connection and namespace.
@@ -277,32 +196,10 @@ fn push_before(
     }
     match stay_in(recording, client, before) {
         Some(stay) => {
-            let asked_first = is_asked_first(recording, client, before, stay);
+            let asked_first = is_asked_first(recording, client, before);
             push_answered(found, number, before, stay, asked_first)
         }
         None => Ok(()),
-    }
-}
-
-/// Whether the client's CONNECT stands in the stay with this number in front of its reply. It costs the stays before it,
-/// and the records between the one before it in its connection and namespace and the reply.
-fn is_asked_first(recording: &Recording<'_>, client: usize, number: usize, stay: &Stay<'_>) -> bool
-    ensures { result ≡ is_asked_first recording.now client number stay.now }
-{
-    let reply = reply_place(places_at(recording, client).get(number));
-    connects_before(recording, client, number, stay, reply)
-}
-
-/// The record of the reply, if there are both.
-fn reply_place(places: Option<&StayPlaces>) -> usize
-    ensures { result ≡ reply_place (option_copied places.entry) }
-{
-    let Some(places) = places else {
-        return 0;
-    };
-    match places.reply {
-        Some(number) => number as usize,
-        None => 0,
     }
 }
 
@@ -314,8 +211,8 @@ pub(crate) fn last_of_stay<'a>(
 ) -> Option<&'a ClientRec>
     ensures { option_copied result ≡ last_of_stay recording.now client number }
 {
-    let places = recording.client(client)?.transcript().places.get(number)?;
-    recording.logs().client(client)?.get(places.last as usize)
+    let places = places_at(recording, client).get(number)?;
+    client_record(recording, client, places.last as usize)
 }
 
 /// Whether the record is a DISCONNECT of either side.
@@ -335,8 +232,8 @@ fn says_disconnect(text: &Text) -> bool
     text.as_str().as_bytes().starts_with(b"41")
 }
 
-/// Adds the causes where this is the stay before, if it was answered. The flag says whether the client's CONNECT stands
-/// in front of the answer.
+/// Adds the causes where this is the stay before, if it was answered. The flag says whether it begins with the
+/// client's CONNECT.
 fn push_answered(
     found: &mut Vec<Cause>,
     number: usize,
@@ -358,7 +255,7 @@ fn push_answered(
     push_cause(found, Some(second))
 }
 
-/// Where in the stay before no session was asked for, and no CONNECT of the client stands in front of its reply.
+/// Where in the stay before no session was asked for, and it doesn't begin with the client's CONNECT.
 fn out_after_answer(
     number: usize,
     before: usize,

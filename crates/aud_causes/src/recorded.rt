@@ -64,12 +64,7 @@ fn open_missing(logs: &Logs<'_>) -> Option<Cause>
 fn has_node(taps: &[Tap]) -> bool
     ensures { result ≡ list_any is_node taps.now }
 {
-    for tap in taps {
-        if is_node(tap) {
-            return true;
-        }
-    }
-    false
+    taps.iter().any(|tap| is_node(tap))
 }
 
 fn is_node(tap: &Tap) -> bool

@@ -61,7 +61,7 @@ before_listed : (c : Cluster) (client number before : ℕ) (left : Bool) (stay :
     → list_all in_orphan (before_causes c client number before left stay) ≡ true
 before_listed c client number before true stay = refl
 before_listed c client number before false None = refl
-before_listed c client number before false (Some stay) = answered_listed number before stay (is_asked_first c client before stay)
+before_listed c client number before false (Some stay) = answered_listed number before stay (is_asked_first c client before)
 
 of_before_listed : (c : Cluster) (client number : ℕ) (before : Option ℕ) → list_all in_orphan (causes_of_before c client number before) ≡ true
 of_before_listed c client number None = refl
