@@ -1,9 +1,7 @@
 -- One element more, as loops read lists.
-use Rattle.std.proofs.Common.{add-one, ◌≡◌, ◌<◌, ◌+◌, ◌-◌, ℕ, suc, true, List, [], ◌∷◌, ◌++◌, length, map, take, get_or, Option, Some, is_some, slice_get, refl, sym, ap, ◌∙◌, arith, append-nil, append_assoc, flat_map}
-use Rattle.std.specs.List.{filter_map, cons_option}
+use Rattle.std.proofs.Common.{add-one, ◌≡◌, ◌<◌, ◌+◌, ◌-◌, ℕ, suc, true, List, [], ◌∷◌, ◌++◌, length, map, take, get_or, Option, Some, is_some, slice_get, refl, sym, ap, ◌∙◌, arith, append-nil, flat_map}
 use Rattle.std.specs.Option.{option_map, option_or}
 use Rattle.std.proofs.lemmas.Grind.{flat_map-append}
-use Rattle.std.proofs.lemmas.List.Elements.{filter_map-append}
 use Rattle.std.proofs.lemmas.Option.{get_or_from_slice_get, slice_get-map, slice_get_read, slice_get_within}
 use Rattle.std.proofs.Math.Seq.{take-suc}
 use Rattle.aud_base.proofs.Numbers.{numbers_from-more}
@@ -11,10 +9,6 @@ use Rattle.aud_node.specs.Lists.{numbers_from}
 use Rattle.aud_client.specs.StaySeen.{StaySeen, FrameSeen}
 use Rattle.aud_session_facts.specs.Missed.{last_position}
 use Rattle.aud_session_facts.specs.Private.Last.{last_in_stays}
-
--- what is kept of the numbers so far, and of one more
-pub kept-more : {Y : Type 0} (f : ℕ → Option Y) (i : ℕ) → filter_map f (numbers_from 0 (i + 1)) ≡ filter_map f (numbers_from 0 i) ++ cons_option (f i) []
-kept-more f i = ap (filter_map f) (numbers_from-more i) ∙ filter_map-append f (numbers_from 0 i) (i ∷ [])
 
 -- what the numbers so far give, and one more
 pub given-more : {Y : Type 0} (f : ℕ → List Y) (i : ℕ) → flat_map f (numbers_from 0 (i + 1)) ≡ flat_map f (numbers_from 0 i) ++ f i
@@ -50,8 +44,3 @@ last_at (x ∷ y ∷ ys) =
   where
     last_some : (y : FrameSeen) (ys : List FrameSeen) → is_some (last_position (y ∷ ys)) ≡ true
     last_some y ys = grind arith
-
--- what is kept of one number more comes after what was kept
-pub pushed-more : {Y : Type 0} (f : ℕ → Option Y) (i : ℕ) (first old new : List Y) → old ≡ first ++ filter_map f (numbers_from 0 i) → new ≡ old ++ cons_option (f i) [] → new ≡ first ++ filter_map f (numbers_from 0 (i + 1))
-pushed-more f i first old new was more =
-    more ∙ ap (λ ys. ys ++ cons_option (f i) []) was ∙ append_assoc first (filter_map f (numbers_from 0 i)) (cons_option (f i) []) ∙ ap (λ ys. first ++ ys) (sym (kept-more f i))
