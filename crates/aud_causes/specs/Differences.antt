@@ -17,12 +17,12 @@ use Rattle.aud_causes.specs.declared.cause.Cause.{Cause}
 use Rattle.aud_causes.specs.declared.cause.Cause.TheVariants.{OffsetOfAnotherSession, FrameNotRecorded}
 use Rattle.aud_causes.specs.declared.facts.Facts.{Facts}
 use Rattle.aud_causes.specs.Facts.{facts_of}
-use Rattle.aud_causes.specs.Delivery.{cause_if, held, doubled_live, swapped_live, lost_live, sent_again, stale_offset, skipped_in_window}
+use Rattle.aud_causes.specs.Delivery.{cause_if, held, doubled_in_replay, doubled_live, swapped_in_replay, swapped_live, lost_live, replay_includes_offset, sent_again, stale_offset, skipped_in_window}
 use Rattle.aud_causes.specs.Behind.{node_behind}
 use Rattle.aud_causes.specs.Extra.{log_ended_early, before_birth, late_leave, extra_live, change_missing, rooms_named}
 use Rattle.aud_causes.specs.Leavable.{leave_missing_in}
 use Rattle.aud_causes.specs.Unrecorded.{recovery_not_recorded}
-use Rattle.aud_causes.specs.AtBreak.{first_taken, rooms_at_break}
+use Rattle.aud_causes.specs.AtBreak.{first_came, first_taken, rooms_at_break}
 use Rattle.aud_causes.specs.Bodies.{body_twice}
 
 -- ---- what is known of a session
@@ -85,18 +85,22 @@ abbrev pub cause_and : Option Cause → List Cause → List Cause
 cause_and cause causes = option_to_list cause ++ causes
 
 -- of an entry that came twice, where this holds of a body of polling: the node was behind the break; the node sent again
--- what it had replayed; the offset was stale; that of the body; it came twice while the client was connected
+-- what it had replayed; the replay began at the offset; the offset was stale; that of the body; it came twice in the
+-- replay, or while the client was connected
 abbrev pub doubled_causes : Cluster → List TurnSeen → List StaySeen → Option Cause → Facts → List Cause
 doubled_causes c turns stays body f =
-    held (node_behind c turns f ∷ sent_again f (first_taken stays f) ∷ stale_offset f ∷ body ∷ doubled_live f ∷ [])
+    held
+    (node_behind c turns f ∷ sent_again f (first_taken stays f) ∷ replay_includes_offset f (first_came stays f) ∷ stale_offset f
+    ∷ body ∷ doubled_in_replay f ∷ doubled_live f ∷ [])
 
 -- the same of a session's entry
 abbrev pub doubled_in : Case → Facts → List Cause
 doubled_in s f = doubled_causes s.c s.seen s.stays (body_twice s.c s.client s.numbers f) f
 
--- of an entry that came late: the node was behind the break; two changed places while the client was connected
+-- of an entry that came late: the node was behind the break; it came late in the replay; two changed places while the
+-- client was connected
 abbrev pub swapped_causes : Cluster → List TurnSeen → Facts → List Cause
-swapped_causes c turns f = held (node_behind c turns f ∷ swapped_live f ∷ [])
+swapped_causes c turns f = held (node_behind c turns f ∷ swapped_in_replay f ∷ swapped_live f ∷ [])
 
 -- of an entry that was lost, where this holds of the rooms at the break, and of a `leave`: the first; it was left out of
 -- the replay; the offset was another session's; its frame was not recorded; it was left out while the client was

@@ -27,6 +27,7 @@ pub mod Windows
 pub mod Names
 pub mod Orphans
 pub mod Turns
+pub mod Bare
 pub mod LastTurn
 pub mod TakenBack
 pub mod Cleared

@@ -5,7 +5,7 @@ ghost use Rattle.aud_maker.specs.Made.{IsMade};
 ghost use Rattle.aud_session_facts.specs.NotDue.{reason_of};
 ghost use Rattle.aud_causes.specs.Differences.{case_of, causes_by, difference_causes, doubled_causes, doubled_in, extra_causes, extra_in, frame_not_recorded, lost_causes, lost_in, offset_of_another, other_session_after, other_session_before, swapped_causes};
 
-use crate::at_break::{first_taken, rooms_at_break};
+use crate::at_break::{first_came, first_taken, rooms_at_break};
 use crate::behind::node_behind;
 use crate::bodies::body_twice;
 use crate::cause::Cause;
@@ -16,7 +16,8 @@ use crate::facts::{Facts, facts_of};
 use crate::leavable::leave_missing_in;
 use crate::list::{held, push_cause};
 use crate::live::{
-    doubled_live, lost_live, sent_again, skipped_in_window, stale_offset, swapped_live,
+    doubled_in_replay, doubled_live, lost_live, replay_includes_offset, sent_again,
+    skipped_in_window, stale_offset, swapped_in_replay, swapped_live,
 };
 use crate::unrecorded::recovery_not_recorded;
 use aud_cert::Turn;
@@ -123,8 +124,10 @@ fn doubled_causes(
         &[
             node_behind(logs, turns, facts),
             sent_again(facts, first_taken(stays, facts)),
+            replay_includes_offset(facts, first_came(stays, facts)),
             stale_offset(facts),
             body,
+            doubled_in_replay(facts),
             doubled_live(facts),
         ],
     )
@@ -141,7 +144,11 @@ fn swapped_causes(
 {
     held(
         alloc,
-        &[node_behind(logs, turns, facts), swapped_live(facts)],
+        &[
+            node_behind(logs, turns, facts),
+            swapped_in_replay(facts),
+            swapped_live(facts),
+        ],
     )
 }
 

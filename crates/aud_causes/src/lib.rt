@@ -22,6 +22,7 @@
 #![tactic(auto)]
 
 mod at_break;
+mod bare;
 mod behind;
 mod bodies;
 mod candidates;

@@ -1,5 +1,5 @@
 -- The causes of a difference between what was received and what was due have names of the fault's list.
-use Rattle.std.proofs.Common.{◌≡◌, ◌-◌, ◌&&◌, ◌++◌, ℕ, Bool, true, List, [], ◌∷◌, length, Option, Some, None, map, option_to_list, nat_eq, nat_le, nat_lt, not, refl, slice_get, take}
+use Rattle.std.proofs.Common.{◌≡◌, ◌-◌, ◌&&◌, ◌++◌, ℕ, Bool, true, false, List, [], ◌∷◌, length, Option, Some, None, map, option_to_list, nat_eq, nat_le, nat_lt, not, refl, slice_get, take}
 use Rattle.std.specs.List.{list_all}
 use Rattle.std.specs.Option.{option_and_then, option_map, option_or}
 use Rattle.aud_node.specs.Cluster.{Cluster}
@@ -21,10 +21,10 @@ use Rattle.aud_causes.specs.declared.cause.Cause.{Cause}
 use Rattle.aud_causes.specs.declared.cause.Cause.TheVariants as cause
 use Rattle.aud_causes.specs.declared.facts.Facts.{Facts}
 use Rattle.aud_causes.specs.declared.facts.Replay.{Replay}
-use Rattle.aud_causes.specs.AtBreak.{first_taken, is_by_rooms_at_break, rooms_at_break}
+use Rattle.aud_causes.specs.AtBreak.{first_came, first_taken, is_by_rooms_at_break, rooms_at_break}
 use Rattle.aud_causes.specs.Behind.{behind, behind_at, first_behind, first_of, last_of, node_behind}
 use Rattle.aud_causes.specs.Bodies.{are_equal_bodies, body_before, body_twice, equal_bodies, is_one_body, last_record, places_at, record_of}
-use Rattle.aud_causes.specs.Delivery.{doubled_live, is_live, is_outside, is_replayed, is_taken_live, is_this, lost_live, sent_again, skipped_in_window, stale_offset, swapped_live}
+use Rattle.aud_causes.specs.Delivery.{doubled_in_replay, doubled_live, is_in_replay, is_live, is_outside, is_replayed, is_taken_live, is_this, lost_live, replay_includes_offset, sent_again, skipped_in_window, stale_offset, swapped_in_replay, swapped_live}
 use Rattle.aud_causes.specs.Differences.{Case, difference_causes, doubled_in, extra_by, extra_in, frame_not_recorded, lost_in, other_session_after, other_session_before, swapped_causes}
 use Rattle.aud_causes.specs.Extra.{before_birth, change_missing, ended_in, extra_live, first_left, goes_on, is_unaddressed, last_turn, late_leave, log_ended_early, reached_at, rooms_named}
 use Rattle.aud_causes.specs.Facts.{facts_of}
@@ -135,6 +135,11 @@ module _ (off : Text) where
       of_test in_doubled (λ (replay : Replay). nat_eq f.earlier f.later && is_this past f.parted.position)
       (λ (replay : Replay). cause.SentAgainAfterReplay f.parted.first f.parted.again replay.low) (λ replay. refl) f.replay
 
+  includes_listed : (f : Facts) (came : Option ℕ) → OfSome in_doubled (replay_includes_offset f came)
+  includes_listed f came =
+      of_test in_doubled (λ after. nat_lt f.earlier f.later && nat_eq after f.parted.position && is_this came after)
+      (λ after. cause.ReplayIncludesOffset f.later f.parted.again after) (λ after. refl) f.asked
+
   stale_listed : (f : Facts) → OfSome in_doubled (stale_offset f)
   stale_listed f = of_test in_doubled (λ after. nat_lt f.earlier f.later && nat_lt after f.parted.position) (cause.StaleOffset f.later) (λ after. refl) f.asked
 
@@ -142,11 +147,11 @@ module _ (off : Text) where
   body_listed c client numbers f =
       let first = record_of c client numbers f.parted.first in
       let of_equal =
-      of_if in_doubled (are_equal_bodies c client first (record_of c client numbers f.parted.again)) (cause.EqualBodies f.parted.first f.parted.again) refl in
+      of_if in_doubled (are_equal_bodies c client first (record_of c client numbers f.parted.again)) (cause.BodyCameTwice f.parted.first f.parted.again true) refl in
       let of_before =
       of_if in_doubled
       (nat_lt f.earlier f.later && is_one_body c client first (last_record (places_at c client) None (take f.later numbers)))
-      (cause.BodyCameTwice f.parted.first f.parted.again) refl in
+      (cause.BodyCameTwice f.parted.first f.parted.again false) refl in
       of_choice in_doubled (nat_eq f.earlier f.later) (equal_bodies c client numbers f) (body_before c client numbers f) of_equal of_before
 
   doubled_listed : (s : Case) (f : Facts) → list_all in_doubled (doubled_in s f) ≡ true
@@ -154,11 +159,12 @@ module _ (off : Text) where
       let of_behind = behind_listed in_doubled (λ broke back high low. refl) s.c s.seen f in
       let of_sent = sent_again_listed f (first_taken s.stays f) in
       let of_body = body_listed s.c s.client s.numbers f in
+      let of_replay = of_if in_doubled (is_in_replay f) (cause.DoubledInReplay f.parted.first f.parted.again) refl in
       let of_live = of_if in_doubled (is_live f) (cause.DoubledLive f.parted.first f.parted.again) refl in
       of_held in_doubled
-      (node_behind s.c s.seen f ∷ sent_again f (first_taken s.stays f) ∷ stale_offset f
-      ∷ body_twice s.c s.client s.numbers f ∷ doubled_live f ∷ [])
-      (of_behind, (of_sent, (stale_listed f, (of_body, (of_live, tt)))))
+      (node_behind s.c s.seen f ∷ sent_again f (first_taken s.stays f) ∷ replay_includes_offset f (first_came s.stays f)
+      ∷ stale_offset f ∷ body_twice s.c s.client s.numbers f ∷ doubled_in_replay f ∷ doubled_live f ∷ [])
+      (of_behind, (of_sent, (includes_listed f (first_came s.stays f), (stale_listed f, (of_body, (of_replay, (of_live, tt)))))))
 
 -- ---- SWAPPED
 
@@ -170,8 +176,9 @@ module _ (off : Text) where
   swapped_listed : (c : Cluster) (turns : List TurnSeen) (f : Facts) → list_all in_swapped (swapped_causes c turns f) ≡ true
   swapped_listed c turns f =
       let of_behind = behind_listed in_swapped (λ broke back high low. refl) c turns f in
+      let of_replay = of_if in_swapped (is_in_replay f) (cause.SwappedInReplay f.parted.first f.parted.again) refl in
       let of_live = of_if in_swapped (is_live f) (cause.SwappedLive f.parted.first f.parted.again) refl in
-      of_held in_swapped (node_behind c turns f ∷ swapped_live f ∷ []) (of_behind, (of_live, tt))
+      of_held in_swapped (node_behind c turns f ∷ swapped_in_replay f ∷ swapped_live f ∷ []) (of_behind, (of_replay, (of_live, tt)))
 
 -- ---- LOST
 
