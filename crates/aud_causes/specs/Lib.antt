@@ -14,6 +14,8 @@ pub mod Texts
 pub mod Facts
 pub mod Delivery
 pub mod Behind
+pub mod NextChange
+pub mod Changed
 pub mod Extra
 pub mod AtBreak
 pub mod Bodies

@@ -65,7 +65,8 @@ fn is_by_rooms_at_break(
     Ok(are_same(came.as_slice(), due.as_slice()))
 }
 
-fn are_same(came: &[u64], due: &[u64]) -> bool
+/// Whether exactly these came, in this order.
+pub(crate) fn are_same(came: &[u64], due: &[u64]) -> bool
     ensures { result ≡ pointwise nat_eq came.now due.now }
 {
     came == due
