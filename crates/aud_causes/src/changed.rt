@@ -77,7 +77,7 @@ pub(crate) fn fits_with(
     let nsp = namespace_in(turns);
     let after = stretch.first.saturating_sub(1);
     let due = due_of(alloc, &changed, logs.stream(), nsp, after, stretch.last)?;
-    Ok(are_same(&within, &due))
+    Ok(are_same(&within, due.as_slice()))
 }
 
 /// From the position on, up to the next change of the room that a log has, or to the end of what came.
