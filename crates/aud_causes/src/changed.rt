@@ -93,7 +93,10 @@ fn stretch_of(
 {
     Stretch {
         first: position,
-        last: up_to(greatest(came), next_change(logs, pid, turns, room, position)),
+        last: up_to(
+            greatest(came),
+            next_change(logs, pid, turns, room, position),
+        ),
     }
 }
 
@@ -160,11 +163,7 @@ fn spans_with<'s>(
 }
 
 /// The spans of other rooms than this one.
-fn others<'s>(
-    alloc: Global,
-    spans: &'s [Span<'_>],
-    room: &str,
-) -> Result<Vec<Span<'s>>, AllocError>
+fn others<'s>(alloc: Global, spans: &'s [Span<'_>], room: &str) -> Result<Vec<Span<'s>>, AllocError>
     ensures { IfOk result (λ others. others.items ≡ filter (is_of_other room.now) spans.now) }
 {
     let mut others = Vec::new(alloc);

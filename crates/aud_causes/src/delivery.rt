@@ -257,16 +257,7 @@ fn extra_of(
     let turns = account.cert.turns.as_slice();
     let spans = account.cert.spans.as_slice();
     let came = positions_received(alloc, stays)?;
-    let missing = change_missing(
-        alloc,
-        logs,
-        pid,
-        turns,
-        spans,
-        came.as_slice(),
-        &why,
-        facts,
-    )?;
+    let missing = change_missing(alloc, logs, pid, turns, spans, came.as_slice(), &why, facts)?;
     extra_causes(
         alloc,
         logs,

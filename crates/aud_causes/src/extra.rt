@@ -199,9 +199,7 @@ pub(crate) fn change_missing(
         came.now (option_map reason_of why.now) facts) }
 {
     match why {
-        Some(NotDue::NoCommonRoom) => {
-            join_missing(alloc, logs, pid, turns, spans, came, facts)
-        }
+        Some(NotDue::NoCommonRoom) => { join_missing(alloc, logs, pid, turns, spans, came, facts) }
         Some(NotDue::Excepted { room }) => {
             excepted_missing(alloc, logs, pid, turns, spans, came, *room, facts)
         }
@@ -227,9 +225,7 @@ fn join_missing(
     }
     let position = facts.parted.position;
     let rooms = rooms_named(logs.stream().entry(position));
-    if !fits_with_any(
-        alloc, logs, pid, turns, spans, came, true, position, rooms,
-    )? {
+    if !fits_with_any(alloc, logs, pid, turns, spans, came, true, position, rooms)? {
         return Ok(None);
     }
     Ok(Some(Cause::JoinMissing {
@@ -255,9 +251,7 @@ fn excepted_missing(
         return Ok(None);
     }
     let position = facts.parted.position;
-    if !fits_with(
-        alloc, logs, pid, turns, spans, came, false, position, room,
-    )? {
+    if !fits_with(alloc, logs, pid, turns, spans, came, false, position, room)? {
         return Ok(None);
     }
     Ok(Some(Cause::LeaveMissing {

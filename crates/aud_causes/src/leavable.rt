@@ -34,9 +34,7 @@ pub(crate) fn leave_missing(
     if !is_leavable(turns, rooms, facts) {
         return Ok(None);
     }
-    if !fits_with_any(
-        alloc, logs, pid, turns, spans, came, false, position, rooms,
-    )? {
+    if !fits_with_any(alloc, logs, pid, turns, spans, came, false, position, rooms)? {
         return Ok(None);
     }
     Ok(Some(Cause::LeaveMissing {

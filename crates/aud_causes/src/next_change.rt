@@ -59,9 +59,7 @@ fn next_change_at(
 {
     let mut next = None;
     for number in numbers {
-        next = next.or(change_past(
-            logs, node, pid, room, position, high, *number,
-        ));
+        next = next.or(change_past(logs, node, pid, room, position, high, *number));
     }
     next
 }
@@ -101,14 +99,18 @@ fn is_change(pid: &str, room: &str, rec: Option<&NodeRec>) -> bool
     ensures { result ≡ is_change pid.now room.now (option_copied rec.entry) }
 {
     match rec {
-        Some(NodeRec::Join {
-            pid: other,
-            room: name,
-        }) => other.as_str() == pid && name.as_str() == room,
-        Some(NodeRec::Leave {
-            pid: other,
-            room: name,
-        }) => other.as_str() == pid && name.as_str() == room,
+        Some(
+            NodeRec::Join {
+                pid: other,
+                room: name,
+            },
+        ) => other.as_str() == pid && name.as_str() == room,
+        Some(
+            NodeRec::Leave {
+                pid: other,
+                room: name,
+            },
+        ) => other.as_str() == pid && name.as_str() == room,
         _ => false,
     }
 }
