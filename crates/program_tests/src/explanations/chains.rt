@@ -183,11 +183,13 @@ no one client, turns 2, delivery not judged
        7 b    open, sid s1, namespace /, cursor 0  <- does not fit in the turns
     turn 0  a  4 open, cursor 0 == 4 log ends, cursor 0
     turn 0  b  7 open, cursor 0 == 7 log ends, cursor 0
-no known cause of the fault holds
+cause opened-twice (certain, lines 4 7): The log of a has an `open` of the session, and that of b
+        has another.
+do: give each session a pid of its own; see whether two taps have one node's log.
 
 sessions: 1, yes: 0, no: 1
   recording 1: CHAIN 1
-  no known cause: 1
+  cause opened-twice: 1
 sessions that *"#,
     // The same, where the two files are named.
     r#"explain n.jsonl m.jsonl
@@ -201,7 +203,9 @@ no one client, turns 2, delivery not judged
        7 b    open, sid s1, namespace /, cursor 0  <- does not fit in the turns  (m.jsonl:1)
     turn 0  a  4 open, cursor 0 == 4 log ends, cursor 0
     turn 0  b  7 open, cursor 0 == 7 log ends, cursor 0
-no known cause of the fault holds
+cause opened-twice (certain, lines 4 7): The log of a has an `open` of the session, and that of b
+        has another.
+do: give each session a pid of its own; see whether two taps have one node's log.
 
 sessions: *"#,
     r#"explain --json n.jsonl m.jsonl
