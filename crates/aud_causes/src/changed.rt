@@ -2,12 +2,12 @@
 ghost use Rattle.std.specs.Prelude.{◌≡◌, ◌++◌, ◌∷◌, [], IfOk, OnOk};
 ghost use Rattle.std.specs.List.{filter};
 ghost use Rattle.aud_session_facts.specs.Opened.{opened_in};
-ghost use Rattle.aud_causes.specs.Changed.{fits_with, fits_with_any, greatest, is_of_other, is_within, namespace_in, spans_with, stretch_of, up_to};
+ghost use Rattle.aud_causes.specs.Changed.{fits_with, fits_with_any, greatest, is_as_due, is_of_other, is_within, namespace_in, spans_with, stretch_of, up_to};
 
 use crate::at_break::are_same;
 use crate::next_change::next_change;
 use aud_cert::Turn;
-use aud_node::Logs;
+use aud_node::{Logs, Stream};
 use aud_rooms::{Span, due_of};
 use aud_session_facts::opened_in;
 use aud_tap::Text;
@@ -72,12 +72,33 @@ pub(crate) fn fits_with(
         came.now joined position room.now) }
 {
     let stretch = stretch_of(logs, pid, turns, came, room, position);
-    let within = within(alloc, came, stretch)?;
     let changed = spans_with(alloc, spans, room, joined, stretch)?;
-    let nsp = namespace_in(turns);
+    is_as_due(
+        alloc,
+        logs.stream(),
+        namespace_in(turns),
+        &changed,
+        stretch,
+        came,
+    )
+}
+
+/// Whether what came in the stretch, in the order in which it came, is what was due there by these spans.
+fn is_as_due(
+    alloc: Global,
+    stream: &Stream<'_>,
+    nsp: &str,
+    spans: &[Span<'_>],
+    stretch: Stretch,
+    came: &[u64],
+) -> Result<bool, AllocError>
+    ensures { IfOk result (λ is. is
+        ≡ is_as_due stream.now nsp.now spans.now stretch came.now) }
+{
+    let within = within(alloc, came, stretch)?;
     let after = stretch.first.saturating_sub(1);
-    let due = due_of(alloc, &changed, logs.stream(), nsp, after, stretch.last)?;
-    Ok(are_same(&within, due.as_slice()))
+    let due = due_of(alloc, spans, stream, nsp, after, stretch.last)?;
+    Ok(are_same(within.as_slice(), due.as_slice()))
 }
 
 /// From the position on, up to the next change of the room that a log has, or to the end of what came.
