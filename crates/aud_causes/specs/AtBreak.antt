@@ -2,7 +2,7 @@
 use Rattle.std.specs.Prelude.{ℕ, Bool, ◌&&◌, List, [], ◌∷◌, map, take, Option, Some, None, if◌then◌else◌, nat_eq, nat_lt, slice_get}
 use Rattle.std.specs.Cmp.Lexicographic.{pointwise}
 use Rattle.std.specs.List.{filter}
-use Rattle.std.specs.Option.{option_and_then}
+use Rattle.std.specs.Option.{option_and_then, option_map}
 use Rattle.aud_node.specs.Cluster.{Cluster}
 use Rattle.aud_client.specs.StaySeen.{StaySeen, FrameSeen}
 use Rattle.aud_rooms.specs.Turns.{Who, Turn}
@@ -47,6 +47,10 @@ first_past low (frame ∷ frames) = if nat_lt low frame.position then Some frame
 abbrev pub first_past_in : ℕ → Option StaySeen → Option ℕ
 first_past_in low None = None
 first_past_in low (Some stay) = first_past low stay.frames
+
+-- the position of the first frame in the later stay, if there is one
+abbrev pub first_came : List StaySeen → Facts → Option ℕ
+first_came stays f = option_and_then (λ (stay : StaySeen). option_map (λ (frame : FrameSeen). frame.position) (slice_get stay.frames 0)) (slice_get stays f.later)
 
 -- the first position that came in the later stay past what was to be replayed
 abbrev pub first_taken : List StaySeen → Facts → Option ℕ

@@ -13,7 +13,7 @@ use Rattle.aud_session_facts.specs.Recoveries.{stays_at}
 use Rattle.aud_session_facts.specs.declared.shown.frame_place.FramePlace.{FramePlace}
 use Rattle.aud_session_facts.specs.FramePlaces.{frame_at}
 use Rattle.aud_causes.specs.declared.cause.Cause.{Cause}
-use Rattle.aud_causes.specs.declared.cause.Cause.TheVariants.{BodyCameTwice, EqualBodies}
+use Rattle.aud_causes.specs.declared.cause.Cause.TheVariants.{BodyCameTwice}
 use Rattle.aud_causes.specs.declared.facts.Facts.{Facts}
 use Rattle.aud_causes.specs.Delivery.{cause_if}
 
@@ -83,7 +83,7 @@ abbrev pub equal_bodies : Cluster → ℕ → List ℕ → Facts → Option Caus
 equal_bodies c client numbers f =
     cause_if
     (are_equal_bodies c client (record_of c client numbers f.parted.first) (record_of c client numbers f.parted.again))
-    (EqualBodies f.parted.first f.parted.again)
+    (BodyCameTwice f.parted.first f.parted.again true)
 
 -- the two frames stand in two stays; and what came of the session from the first one on, up to the later stay, came in
 -- one body of polling
@@ -92,7 +92,7 @@ body_before c client numbers f =
     cause_if
     (nat_lt f.earlier f.later
     && is_one_body c client (record_of c client numbers f.parted.first) (last_record (places_at c client) None (take f.later numbers)))
-    (BodyCameTwice f.parted.first f.parted.again)
+    (BodyCameTwice f.parted.first f.parted.again false)
 
 -- of two frames of one stay, or of two
 abbrev pub body_twice : Cluster → ℕ → List ℕ → Facts → Option Cause

@@ -15,11 +15,11 @@ abbrev pub candidates : Fault → List Text
 candidates fault.NoLog = codes "open-not-recorded" ∷ codes "node-not-tapped" ∷ []
 candidates fault.Chain =
     codes "node-not-tapped" ∷ codes "missing-break" ∷ codes "cleared-after-break"
-    ∷ codes "turn-not-stored" ∷ codes "recovered-twice" ∷ []
+    ∷ codes "turn-not-stored" ∷ codes "recovered-twice" ∷ codes "opened-twice" ∷ []
 candidates fault.Order =
     codes "no-start" ∷ codes "restarted-in-old-log" ∷ codes "entries-skipped-by-node"
     ∷ codes "entry-taken-again" ∷ codes "not-in-stream" ∷ []
-candidates fault.Client = codes "two-taps" ∷ codes "no-client-tap" ∷ codes "reply-missing" ∷ []
+candidates fault.Client = codes "two-taps" ∷ codes "no-client-tap" ∷ codes "reply-missing" ∷ codes "client-tap-has-no-packets" ∷ []
 candidates fault.Names = codes "sid-differs" ∷ codes "namespace-differs" ∷ []
 candidates fault.Frame = codes "not-a-packet" ∷ []
 candidates fault.Orphan =
@@ -31,9 +31,9 @@ candidates (fault.Extra off) =
     ∷ codes "before-birth" ∷ codes "extra-live" ∷ codes "join-missing" ∷ codes "leave-missing"
     ∷ codes "recovery-not-recorded" ∷ []
 candidates (fault.Doubled off) =
-    codes "node-behind-break" ∷ codes "sent-again-after-replay" ∷ codes "stale-offset"
-    ∷ codes "body-came-twice" ∷ codes "doubled-live" ∷ codes "recovery-not-recorded" ∷ []
-candidates (fault.Swapped off) = codes "node-behind-break" ∷ codes "swapped-live" ∷ codes "recovery-not-recorded" ∷ []
+    codes "node-behind-break" ∷ codes "sent-again-after-replay" ∷ codes "replay-includes-offset" ∷ codes "stale-offset"
+    ∷ codes "body-came-twice" ∷ codes "doubled-in-replay" ∷ codes "doubled-live" ∷ codes "recovery-not-recorded" ∷ []
+candidates (fault.Swapped off) = codes "node-behind-break" ∷ codes "swapped-in-replay" ∷ codes "swapped-live" ∷ codes "recovery-not-recorded" ∷ []
 candidates (fault.Lost off) =
     codes "rooms-at-break" ∷ codes "skipped-in-window" ∷ codes "offset-of-another-session" ∷ codes "frame-not-recorded"
     ∷ codes "lost-live" ∷ codes "leave-missing" ∷ codes "recovery-not-recorded" ∷ []

@@ -2,7 +2,7 @@
 use Rattle.std.specs.Prelude.{ℕ, Bool, false, not, ◌&&◌, ◌||◌, List, flat_map, Option, Some, None, option_to_list, if◌then◌else◌, nat_eq, nat_lt, nat_le}
 use Rattle.std.specs.Option.{option_and_then}
 use Rattle.aud_causes.specs.declared.cause.Cause.{Cause}
-use Rattle.aud_causes.specs.declared.cause.Cause.TheVariants.{DoubledLive, SwappedLive, LostLive, SentAgainAfterReplay, StaleOffset, SkippedInWindow}
+use Rattle.aud_causes.specs.declared.cause.Cause.TheVariants.{DoubledLive, SwappedLive, LostLive, SentAgainAfterReplay, ReplayIncludesOffset, DoubledInReplay, SwappedInReplay, StaleOffset, SkippedInWindow}
 use Rattle.aud_causes.specs.declared.facts.Replay.{Replay}
 use Rattle.aud_causes.specs.declared.facts.Facts.{Facts}
 
@@ -39,6 +39,22 @@ doubled_live f = cause_if (is_live f) (DoubledLive f.parted.first f.parted.again
 abbrev pub swapped_live : Facts → Option Cause
 swapped_live f = cause_if (is_live f) (SwappedLive f.parted.first f.parted.again)
 
+-- what was to be replayed is known, and the position is one of it
+abbrev pub is_of_replay : Option Replay → ℕ → Bool
+is_of_replay None p = false
+is_of_replay (Some replay) p = is_replayed replay p
+
+-- both frames stand in one recovery, in which the entry was to be sent again
+abbrev pub is_in_replay : Facts → Bool
+is_in_replay f = nat_eq f.earlier f.later && is_of_replay f.replay f.parted.position
+
+-- so an entry came twice in a replay, or came late in it
+abbrev pub doubled_in_replay : Facts → Option Cause
+doubled_in_replay f = cause_if (is_in_replay f) (DoubledInReplay f.parted.first f.parted.again)
+
+abbrev pub swapped_in_replay : Facts → Option Cause
+swapped_in_replay f = cause_if (is_in_replay f) (SwappedInReplay f.parted.first f.parted.again)
+
 -- the node's cursor where it took the session back is known, and the position past it
 abbrev pub is_past : Option Replay → ℕ → Bool
 is_past None p = false
@@ -64,6 +80,15 @@ sent_again f past =
     option_and_then
     (λ (replay : Replay). cause_if (nat_eq f.earlier f.later && is_this past f.parted.position) (SentAgainAfterReplay f.parted.first f.parted.again replay.low))
     f.replay
+
+-- the client had the entry in an earlier stay, and asked to go on after it; and the first that came then, in which this is
+-- the position of the first frame, was that entry again: the replay began at the offset in place of after it
+abbrev pub replay_includes_offset : Facts → Option ℕ → Option Cause
+replay_includes_offset f came =
+    option_and_then
+    (λ after.
+    cause_if (nat_lt f.earlier f.later && nat_eq after f.parted.position && is_this came after) (ReplayIncludesOffset f.later f.parted.again after))
+    f.asked
 
 -- the client had the entry in an earlier stay, and asked to go on after one before it
 abbrev pub stale_offset : Facts → Option Cause

@@ -2,12 +2,14 @@
 use Rattle.std.specs.Prelude.{ℕ, not, ◌&&◌, ◌++◌, List, [], ◌∷◌, map, Option, option_to_list, nat_lt, nat_le}
 use Rattle.std.specs.Option.{option_and_then, option_or}
 use Rattle.aud_node.specs.Cluster.{Cluster}
-use Rattle.aud_node.specs.Stream.{Text, entry}
+use Rattle.aud_node.specs.Stream.{Text}
 use Rattle.aud_client.specs.StaySeen.{StaySeen}
+use Rattle.aud_rooms.specs.Spans.{RoomSpan}
 use Rattle.aud_rooms.specs.Turns.{Who, Turn}
 use Rattle.aud_cert.specs.Certificate.{TurnSeen, turn_at}
 use Rattle.aud_maker.specs.Made.{IsMade}
 use Rattle.aud_check.specs.Difference.{has_position}
+use Rattle.aud_check.specs.Window.{positions_received}
 use Rattle.aud_check.specs.declared.difference.Difference.{Difference}
 use Rattle.aud_check.specs.declared.difference.Difference.TheVariants.{Extra, Doubled, Swapped, Lost}
 use Rattle.aud_session_facts.specs.Reasons.{Reason}
@@ -17,24 +19,25 @@ use Rattle.aud_causes.specs.declared.cause.Cause.{Cause}
 use Rattle.aud_causes.specs.declared.cause.Cause.TheVariants.{OffsetOfAnotherSession, FrameNotRecorded}
 use Rattle.aud_causes.specs.declared.facts.Facts.{Facts}
 use Rattle.aud_causes.specs.Facts.{facts_of}
-use Rattle.aud_causes.specs.Delivery.{cause_if, held, doubled_live, swapped_live, lost_live, sent_again, stale_offset, skipped_in_window}
+use Rattle.aud_causes.specs.Delivery.{cause_if, held, doubled_in_replay, doubled_live, swapped_in_replay, swapped_live, lost_live, replay_includes_offset, sent_again, stale_offset, skipped_in_window}
 use Rattle.aud_causes.specs.Behind.{node_behind}
-use Rattle.aud_causes.specs.Extra.{log_ended_early, before_birth, late_leave, extra_live, change_missing, rooms_named}
-use Rattle.aud_causes.specs.Leavable.{leave_missing_in}
+use Rattle.aud_causes.specs.Extra.{log_ended_early, before_birth, late_leave, extra_live, change_missing}
+use Rattle.aud_causes.specs.Leavable.{leave_missing}
 use Rattle.aud_causes.specs.Unrecorded.{recovery_not_recorded}
-use Rattle.aud_causes.specs.AtBreak.{first_taken, rooms_at_break}
+use Rattle.aud_causes.specs.AtBreak.{first_came, first_taken, rooms_at_break}
 use Rattle.aud_causes.specs.Bodies.{body_twice}
 
 -- ---- what is known of a session
 
--- a session, as its `open` names it; its turns in the nodes' logs, and as its certificate has them; the place of its
--- client's tap, the numbers of the stays there whose reply names it, and these stays; and the positions that were due to
+-- a session, as its `open` names it; its turns in the nodes' logs, and as its certificate has them, with the spans of its
+-- rooms; the place of its client's tap, the numbers of the stays there whose reply names it, and these stays; and the positions that were due to
 -- it
 pub record Case : Type 0 where
   pub c : Cluster
   pub who : Who
   pub turns : List Turn
   pub seen : List TurnSeen
+  pub spans : List RoomSpan
   pub client : ℕ
   pub numbers : List ℕ
   pub stays : List StaySeen
@@ -48,6 +51,7 @@ case_of c account numbers made =
       who = made.who;
       turns = made.turns;
       seen = account.cert.turns;
+      spans = account.cert.spans;
       client = account.client;
       numbers = numbers;
       stays = map (λ stay. stay.now) account.stays.items;
@@ -85,18 +89,22 @@ abbrev pub cause_and : Option Cause → List Cause → List Cause
 cause_and cause causes = option_to_list cause ++ causes
 
 -- of an entry that came twice, where this holds of a body of polling: the node was behind the break; the node sent again
--- what it had replayed; the offset was stale; that of the body; it came twice while the client was connected
+-- what it had replayed; the replay began at the offset; the offset was stale; that of the body; it came twice in the
+-- replay, or while the client was connected
 abbrev pub doubled_causes : Cluster → List TurnSeen → List StaySeen → Option Cause → Facts → List Cause
 doubled_causes c turns stays body f =
-    held (node_behind c turns f ∷ sent_again f (first_taken stays f) ∷ stale_offset f ∷ body ∷ doubled_live f ∷ [])
+    held
+    (node_behind c turns f ∷ sent_again f (first_taken stays f) ∷ replay_includes_offset f (first_came stays f) ∷ stale_offset f
+    ∷ body ∷ doubled_in_replay f ∷ doubled_live f ∷ [])
 
 -- the same of a session's entry
 abbrev pub doubled_in : Case → Facts → List Cause
 doubled_in s f = doubled_causes s.c s.seen s.stays (body_twice s.c s.client s.numbers f) f
 
--- of an entry that came late: the node was behind the break; two changed places while the client was connected
+-- of an entry that came late: the node was behind the break; it came late in the replay; two changed places while the
+-- client was connected
 abbrev pub swapped_causes : Cluster → List TurnSeen → Facts → List Cause
-swapped_causes c turns f = held (node_behind c turns f ∷ swapped_live f ∷ [])
+swapped_causes c turns f = held (node_behind c turns f ∷ swapped_in_replay f ∷ swapped_live f ∷ [])
 
 -- of an entry that was lost, where this holds of the rooms at the break, and of a `leave`: the first; it was left out of
 -- the replay; the offset was another session's; its frame was not recorded; it was left out while the client was
@@ -111,27 +119,36 @@ lost_in s f =
     lost_causes
     (rooms_at_break s.c s.who s.turns s.stays f)
     s.due
-    (leave_missing_in s.seen (rooms_named (entry s.c.stream f.parted.position)) f)
+    (leave_missing s.c s.who.pid s.seen s.spans (positions_received s.stays) f)
     f
 
 -- of an entry that was not due, for this reason, and where this holds of the node that was behind the break, of the
--- rooms at the break, and of a room that was left: the first; that of the rooms; the offset was another session's; a
+-- rooms at the break, of a room that was left, and of a change of rooms that is missing: the first; that of the rooms; the offset was another session's; a
 -- node's log ends early; a room of it was left; it was taken before the session was opened; it was sent to a session to
 -- which it wasn't addressed; a change of rooms is missing
-abbrev pub extra_by : Cluster → Text → List TurnSeen → Option Cause → Option Cause → Option Cause → List ℕ → Option Reason → Facts → List Cause
-extra_by c pid turns behind at_break left due why f =
+abbrev pub extra_by : Cluster → Text → List TurnSeen → Option Cause → Option Cause → Option Cause → Option Cause → List ℕ → Option Reason → Facts → List Cause
+extra_by c pid turns behind at_break left missing due why f =
     held
     (behind ∷ at_break ∷ other_session_before due f ∷ log_ended_early c pid turns why ∷ left
-    ∷ before_birth c turns why ∷ extra_live (option_or behind left) why f ∷ change_missing why f ∷ [])
+    ∷ before_birth c turns why ∷ extra_live (option_or behind left) why f ∷ missing ∷ [])
 
--- the same, where this holds of the rooms at the break
-abbrev pub extra_causes : Cluster → Text → List TurnSeen → Option Cause → List ℕ → Option Reason → Facts → List Cause
-extra_causes c pid turns at_break due why f =
-    extra_by c pid turns (node_behind c turns f) at_break (late_leave c pid (map (turn_at c) turns) f.parted.position why) due why f
+-- the same, where this holds of the rooms at the break, and of a change of rooms that is missing
+abbrev pub extra_causes : Cluster → Text → List TurnSeen → Option Cause → Option Cause → List ℕ → Option Reason → Facts → List Cause
+extra_causes c pid turns at_break missing due why f =
+    extra_by c pid turns (node_behind c turns f) at_break (late_leave c pid (map (turn_at c) turns) f.parted.position why) missing due why f
 
 -- the same of a session's entry at this position
 abbrev pub extra_in : Case → Facts → ℕ → List Cause
-extra_in s f p = extra_causes s.c s.who.pid s.seen (rooms_at_break s.c s.who s.turns s.stays f) s.due (why_not_due s.c s.who s.turns p) f
+extra_in s f p = extra_of s f (why_not_due s.c s.who s.turns p)
+  where
+    extra_of : Case → Facts → Option Reason → List Cause
+    extra_of s f why =
+        extra_causes s.c s.who.pid s.seen
+        (rooms_at_break s.c s.who s.turns s.stays f)
+        (change_missing s.c s.who.pid s.seen s.spans (positions_received s.stays) why f)
+        s.due
+        why
+        f
 
 -- those that a difference of this kind alone can have, of its facts
 abbrev pub causes_by : Case → Difference → Facts → List Cause

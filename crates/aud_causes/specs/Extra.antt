@@ -7,6 +7,7 @@ use Rattle.aud_tap.specs.declared.records.StreamRec.TheVariants.{Ev}
 use Rattle.aud_node.specs.Cluster.{Cluster}
 use Rattle.aud_node.specs.Stream.{Text, entry}
 use Rattle.aud_node.specs.TurnRecords.{ends_any_turn}
+use Rattle.aud_rooms.specs.Spans.{RoomSpan}
 use Rattle.aud_rooms.specs.Turns.{Turn}
 use Rattle.aud_cert.specs.Certificate.{TurnSeen}
 use Rattle.aud_session_facts.specs.declared.place.RecordPlace.{RecordPlace}
@@ -22,6 +23,7 @@ use Rattle.aud_causes.specs.declared.cause.Cause.{Cause}
 use Rattle.aud_causes.specs.declared.cause.Cause.TheVariants as cause
 use Rattle.aud_causes.specs.declared.facts.Facts.{Facts}
 use Rattle.aud_causes.specs.Behind.{first_of, last_of}
+use Rattle.aud_causes.specs.Changed.{fits_with, fits_with_any}
 use Rattle.aud_causes.specs.Delivery.{cause_if, is_outside}
 
 -- ---- the log that ends early
@@ -106,9 +108,13 @@ extra_live None why f = cause_if (is_outside f && is_unaddressed why) (cause.Ext
 
 -- ---- a change of rooms that no log has
 
--- the entry came in no replay, and would be due if the session had joined one of its rooms before, or had left the one
--- that it excepts
-abbrev pub change_missing : Option Reason → Facts → Option Cause
-change_missing (Some NoCommonRoom) f = cause_if (is_outside f) (cause.JoinMissing f.parted.again)
-change_missing (Some (Excepted room)) f = cause_if (is_outside f) (cause.LeaveMissing f.parted.again)
-change_missing _ f = None
+-- the entry came in no replay; and what came from it on is what was due if the session of these turns and spans had joined
+-- one of its rooms before, or had left the one that it excepts, where these are the positions of all that came
+abbrev pub change_missing : Cluster → Text → List TurnSeen → List RoomSpan → List ℕ → Option Reason → Facts → Option Cause
+change_missing c pid turns spans came (Some NoCommonRoom) f =
+    cause_if
+    (is_outside f && fits_with_any c pid turns spans came true f.parted.position (rooms_named (entry c.stream f.parted.position)))
+    (cause.JoinMissing f.parted.again)
+change_missing c pid turns spans came (Some (Excepted room)) f =
+    cause_if (is_outside f && fits_with c pid turns spans came false f.parted.position room) (cause.LeaveMissing f.parted.again)
+change_missing c pid turns spans came _ f = None

@@ -14,6 +14,8 @@ pub mod Texts
 pub mod Facts
 pub mod Delivery
 pub mod Behind
+pub mod NextChange
+pub mod Changed
 pub mod Extra
 pub mod AtBreak
 pub mod Bodies
@@ -27,6 +29,7 @@ pub mod Windows
 pub mod Names
 pub mod Orphans
 pub mod Turns
+pub mod Bare
 pub mod LastTurn
 pub mod TakenBack
 pub mod Cleared

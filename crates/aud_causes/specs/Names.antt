@@ -10,6 +10,7 @@ use Rattle.aud_client.specs.StaySeen.{StaySeen}
 use Rattle.aud_check.specs.NamedStays.{has_sid}
 use Rattle.aud_causes.specs.declared.cause.Cause.{Cause}
 use Rattle.aud_causes.specs.declared.cause.Cause.TheVariants.{NoClientTap, ReplyMissing, TwoTaps, SidDiffers, NamespaceDiffers}
+use Rattle.aud_causes.specs.Bare.{tap_without_packets}
 use Rattle.aud_causes.specs.Delivery.{held}
 use Rattle.aud_causes.specs.Orphans.{is_disconnect, last_of_stay}
 
@@ -41,15 +42,16 @@ unnamed_from c place (tap ∷ taps) = if has_unnamed c place (transcript_at c pl
 abbrev pub reply_missing : Cluster → Option Cause
 reply_missing c = option_map ReplyMissing (unnamed_from c 0 c.taps)
 
--- of a session that no client's tap names: no tap does; a tap has a CONNECT or events of no known session
-abbrev pub unnamed_causes : Cluster → List Cause
-unnamed_causes c = held (Some NoClientTap ∷ reply_missing c ∷ [])
+-- of a session that no client's tap names: no tap does; a tap has a CONNECT or events of no known session; a tap has a
+-- connection without a packet, which may be the session's
+abbrev pub unnamed_causes : Cluster → Text → List Cause
+unnamed_causes c pid = held (Some NoClientTap ∷ reply_missing c ∷ tap_without_packets c pid ∷ [])
 
 -- of so many clients' taps that name the session: none, or several
-abbrev pub client_causes : Cluster → ℕ → List Cause
-client_causes c zero = unnamed_causes c
-client_causes c (suc zero) = []
-client_causes c (suc (suc more)) = TwoTaps (suc (suc more)) ∷ []
+abbrev pub client_causes : Cluster → Text → ℕ → List Cause
+client_causes c pid zero = unnamed_causes c pid
+client_causes c pid (suc zero) = []
+client_causes c pid (suc (suc more)) = TwoTaps (suc (suc more)) ∷ []
 
 -- ---- the names
 

@@ -20,7 +20,7 @@ use Rattle.aud_session_facts.specs.declared.place.RecordPlace.{RecordPlace}
 use Rattle.aud_session_facts.specs.Marks.{turn_marks}
 use Rattle.aud_session_facts.specs.Recoveries.{stays_at}
 use Rattle.aud_causes.specs.declared.cause.Cause.{Cause}
-use Rattle.aud_causes.specs.declared.cause.Cause.TheVariants.{NodeNotTapped, OpenMissing, OpenNotRecorded}
+use Rattle.aud_causes.specs.declared.cause.Cause.TheVariants.{NodeNotTapped, OpenNotRecorded}
 use Rattle.aud_causes.specs.Chain.{chain_causes}
 use Rattle.aud_causes.specs.Delivery.{cause_if, held}
 use Rattle.aud_causes.specs.Logs.{order_cause}
@@ -54,12 +54,12 @@ is_node tap = is_of_node tap.records
 
 -- a node is tapped
 abbrev pub open_missing : Cluster → Option Cause
-open_missing c = cause_if (list_any is_node c.taps) OpenMissing
+open_missing c = cause_if (list_any is_node c.taps) (OpenNotRecorded None)
 
 -- the causes of a session that no node opened, where this is its first record on a node, if it has any: no log has its
 -- `open`; or, where none has any record of it, a node is tapped, and the `open` alone is missing; or its node is not
 abbrev pub opened_by : Cluster → Option RecordPlace → List Cause
-opened_by c (Some first) = OpenNotRecorded first ∷ []
+opened_by c (Some first) = OpenNotRecorded (Some first) ∷ []
 opened_by c None = held (open_missing c ∷ Some (NodeNotTapped 0) ∷ [])
 
 -- the same of the session with this pid
@@ -80,5 +80,5 @@ abbrev pub AreRecordedCauses : Cluster → Option ℕ → Text → List RecordPl
 AreRecordedCauses c client pid unordered fault.NoLog found = found ≡ no_log_causes c pid
 AreRecordedCauses c client pid unordered fault.Chain found = found ≡ causes_of_turns c client pid
 AreRecordedCauses c client pid unordered fault.Order found = found ≡ order_causes c unordered
-AreRecordedCauses c client pid unordered fault.Client found = found ≡ client_causes c (length (naming_places c.taps pid))
+AreRecordedCauses c client pid unordered fault.Client found = found ≡ client_causes c pid (length (naming_places c.taps pid))
 AreRecordedCauses c client pid unordered _ found = found ≡ []

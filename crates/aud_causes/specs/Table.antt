@@ -1,5 +1,5 @@
 -- All that is said of a cause: one table, with a row for each, in the order of the causes.
-use Rattle.std.specs.Prelude.{List, [], ◌∷◌, codes, flat_map, Some, None, option_to_list}
+use Rattle.std.specs.Prelude.{true, false, List, [], ◌∷◌, codes, flat_map, Some, None, option_to_list}
 use Rattle.aud_node.specs.Stream.{Text}
 use Rattle.aud_check.specs.declared.content.Part.{Part}
 use Rattle.aud_check.specs.declared.content.Part.TheVariants as part
@@ -12,7 +12,7 @@ use Rattle.aud_causes.specs.declared.record_at.Records.TheVariants.{Nothing, One
 use Rattle.aud_causes.specs.declared.table.Row.{Row}
 use Rattle.aud_causes.specs.NoPacket.{advice, no_packet_figures, no_packet_words}
 use Rattle.aud_causes.specs.declared.cause.Cause.{Cause}
-use Rattle.aud_causes.specs.declared.cause.Cause.TheVariants.{NodeBehindBreak, SentAgainAfterReplay, StaleOffset, BodyCameTwice, EqualBodies, OffsetOfAnotherSession, FrameNotRecorded, UnknownOffset, NoOffset, RoomsAtBreak, SkippedInWindow, LostLive, DoubledLive, SwappedLive, AnotherEncoder, AttachmentsReordered, AnotherEvent, Altered, LogEndedEarly, LateLeave, BeforeBirth, ExtraLive, JoinMissing, LeaveMissing, RecoveryNotRecorded, MissingBreak, ClearedAfterBreak, TurnNotStored, RecoveredTwice, OpenNotRecorded, OpenMissing, NodeNotTapped, NoStart, RestartedInOldLog, EntriesSkippedByNode, EntryTakenAgain, NotInStream, TwoTaps, NoClientTap, ReplyMissing, SidDiffers, NamespaceDiffers, NotAPacket, TapBeganLate, CutBeforeReply, ReplyWithoutPid, OutAfterAnswer, SecondConnect, AfterDisconnect, SessionOver, NodeEndedInTurn, NeverBroken, AskedTooEarly}
+use Rattle.aud_causes.specs.declared.cause.Cause.TheVariants.{NodeBehindBreak, SentAgainAfterReplay, ReplayIncludesOffset, DoubledInReplay, StaleOffset, BodyCameTwice, OffsetOfAnotherSession, FrameNotRecorded, UnknownOffset, NoOffset, RoomsAtBreak, SkippedInWindow, LostLive, DoubledLive, SwappedLive, SwappedInReplay, AnotherEncoder, AttachmentsReordered, AnotherEvent, Altered, LogEndedEarly, LateLeave, BeforeBirth, ExtraLive, JoinMissing, LeaveMissing, RecoveryNotRecorded, MissingBreak, ClearedAfterBreak, TurnNotStored, RecoveredTwice, OpenedTwice, OpenNotRecorded, NodeNotTapped, NoStart, RestartedInOldLog, EntriesSkippedByNode, EntryTakenAgain, NotInStream, TwoTaps, NoClientTap, ReplyMissing, ClientTapHasNoPackets, SidDiffers, NamespaceDiffers, NotAPacket, TapBeganLate, CutBeforeReply, ReplyWithoutPid, OutAfterAnswer, SecondConnect, AfterDisconnect, SessionOver, NodeEndedInTurn, NeverBroken, AskedTooEarly}
 
 -- what is said of a cause: its name, for scripts; the records that show it; what happened, in words, where in the place of
 -- each `#` stands the next of the figures; and what to do
@@ -59,13 +59,19 @@ row_of (NodeBehindBreak broke back high low) = row (codes "node-behind-break") (
 row_of (SentAgainAfterReplay first again low) = row (codes "sent-again-after-replay") (Got first ∷ Got again ∷ [])
     (codes "The replay ran past the node's cursor at #, and the node sent again what it took then.") (Number low ∷ [])
     (codes "let the replay end at the node's cursor, or drop what it sent from what the node takes.")
+row_of (ReplayIncludesOffset stay again after) = row (codes "replay-includes-offset") (Ask stay ∷ Got again ∷ [])
+    (codes "The client asked to go on after entry #, and that entry came first.") (Number after ∷ [])
+    (codes "let the replay begin after the offset: in Redis `XRANGE` from `(OFFSET`, or skip the first.")
+row_of (DoubledInReplay first again) = row (codes "doubled-in-replay") (Got first ∷ Got again ∷ [])
+    (codes "The entry is one of those to be sent again, and came twice in one recovery.") []
+    (codes "look at how the node reads the stream for the replay: no entry may stand in two of its pages.")
 row_of (StaleOffset stay after) = row (codes "stale-offset") (Ask stay ∷ [])
     (codes "The client asked to go on after entry #, and had later ones already.") (Number after ∷ [])
     (codes "store the offset with each event, before the event is worked on.")
-row_of (BodyCameTwice first again) = row (codes "body-came-twice") (Got first ∷ Got again ∷ [])
+row_of (BodyCameTwice first again false) = row (codes "body-came-twice") (Got first ∷ Got again ∷ [])
     (codes "From this entry on, all that came before the recovery had come in one body of polling.") []
     (codes "see whether the client refused that body, for its packets are too many or too long.")
-row_of (EqualBodies first again) = row (codes "body-came-twice") (Got first ∷ Got again ∷ [])
+row_of (BodyCameTwice first again true) = row (codes "body-came-twice") (Got first ∷ Got again ∷ [])
     (codes "The two bodies of polling in which the entry came are the same, byte for byte.") []
     (codes "see whether the client's tap wrote one body twice; else whether the server sent it twice.")
 row_of (OffsetOfAnotherSession stay after) = row (codes "offset-of-another-session") (Ask stay ∷ [])
@@ -95,6 +101,9 @@ row_of (DoubledLive first again) = row (codes "doubled-live") (Got first ∷ Got
 row_of (SwappedLive frame later) = row (codes "swapped-live") (Got frame ∷ Got later ∷ [])
     (codes "No recovery stands between the two frames: they changed places while the client was connected.") []
     (codes "look at what stands between the node and the client, and at what the node sent.")
+row_of (SwappedInReplay frame later) = row (codes "swapped-in-replay") (Got frame ∷ Got later ∷ [])
+    (codes "The entry is one of those to be sent again, and came late in its recovery.") []
+    (codes "send what is read for the replay in the stream's order, and before what the node takes.")
 row_of (AnotherEncoder frame part) = row (codes "another-encoder") (Got frame ∷ [])
     (codes "The event's text parts from its entry's at byte #, and is the same JSON.") (part_figures part)
     (codes "let the stream's tap write each event as the nodes do, byte for byte.")
@@ -143,10 +152,13 @@ row_of (TurnNotStored turn first again) = row (codes "turn-not-stored") (Node fi
 row_of (RecoveredTwice turn first again) = row (codes "recovered-twice") (Node first ∷ Node again ∷ [])
     (codes "Two nodes took the session back as turn #.") (Number turn ∷ [])
     (codes "take a stored session out of the store in one step, so that one node alone gets it.")
-row_of (OpenNotRecorded first) = row (codes "open-not-recorded") (Node first ∷ [])
+row_of (OpenedTwice first again) = row (codes "opened-twice") (Node first ∷ Node again ∷ [])
+    (codes "The log of # has an `open` of the session, and that of # has another.") (Name first.node ∷ Name again.node ∷ [])
+    (codes "give each session a pid of its own; see whether two taps have one node's log.")
+row_of (OpenNotRecorded (Some first)) = row (codes "open-not-recorded") (Node first ∷ [])
     (codes "The log of # has records of the session, and no log has its `open`.") (Name first.node ∷ [])
     (codes "write an `open` when the session opens, unbuffered; look at how logs are rotated.")
-row_of OpenMissing = row (codes "open-not-recorded") []
+row_of (OpenNotRecorded None) = row (codes "open-not-recorded") []
     (codes "No log has a record of the session, though a node is tapped: its `open` may be missing.") []
     (codes "write an `open` when the session opens, unbuffered; look at how logs are rotated.")
 row_of (NodeNotTapped turn) = row (codes "node-not-tapped") []
@@ -176,6 +188,9 @@ row_of NoClientTap = row (codes "no-client-tap") []
 row_of (ReplyMissing client) = row (codes "reply-missing") []
     (codes "The tap of # has a CONNECT or events, and no reply that names their session.") (Name client ∷ [])
     (codes "begin a client's tap before its first packet, and record each answer to a CONNECT.")
+row_of (ClientTapHasNoPackets client) = row (codes "client-tap-has-no-packets") []
+    (codes "The first connection in the tap of # has no packet: it may be the session's.") (Name client ∷ [])
+    (codes "begin to record a connection's packets before its first one; see why it ended.")
 row_of (SidDiffers stay) = row (codes "sid-differs") (Reply stay ∷ [])
     (codes "The reply has another sid than the session was opened with.") []
     (codes "write the session's sid into the node's log, not that of the transport.")

@@ -1,12 +1,12 @@
 -- A turn for which two records take the session back.
 use Rattle.std.specs.Prelude.{ℕ, Bool, true, false, not, ◌&&◌, ◌||◌, List, [], count_by, flat_map, length, Option, Some, None, if◌then◌else◌, nat_eq, nat_le, slice_get}
-use Rattle.std.specs.Option.{option_and_then}
+use Rattle.std.specs.Option.{option_and_then, option_map, option_or}
 use Rattle.aud_session_facts.specs.declared.marks.Mark.{Mark}
 use Rattle.aud_session_facts.specs.declared.marks.Mark.TheVariants as mark
 use Rattle.aud_session_facts.specs.declared.marks.TurnMark.{TurnMark}
 use Rattle.aud_session_facts.specs.declared.place.RecordPlace.{RecordPlace}
 use Rattle.aud_causes.specs.declared.cause.Cause.{Cause}
-use Rattle.aud_causes.specs.declared.cause.Cause.TheVariants.{TurnNotStored, RecoveredTwice}
+use Rattle.aud_causes.specs.declared.cause.Cause.TheVariants.{TurnNotStored, RecoveredTwice, OpenedTwice}
 use Rattle.aud_causes.specs.declared.twice.Twice.{Twice}
 use Rattle.aud_causes.specs.Delivery.{cause_if}
 use Rattle.aud_causes.specs.Differences.{cause_and}
@@ -33,6 +33,30 @@ begun_twice turn again _ = None
 -- the record takes the session back for a turn of which another one is the first begin, where these are the turns'
 abbrev pub twice_at : List (Option RecordPlace) → TurnMark → Option Twice
 twice_at begins m = option_and_then (λ turn. begun_twice turn m.place (slice_get begins turn)) (back_turn m.mark)
+
+-- ---- a second `open`
+
+-- it is an `open`
+abbrev pub is_open : Mark → Bool
+is_open mark.Open = true
+is_open _ = false
+
+-- the record opens the session, and so did this one before it, if there is one
+abbrev pub opened_after : Option RecordPlace → TurnMark → Option Cause
+opened_after first m = if is_open m.mark then option_map (λ (f : RecordPlace). OpenedTwice f m.place) first else None
+
+-- the last record so far that opens the session, after this record too
+abbrev pub open_with : Option RecordPlace → TurnMark → Option RecordPlace
+open_with first m = if is_open m.mark then Some m.place else first
+
+-- of these records the first that opens a session that is open: where this one opened it before them, if it was opened
+abbrev pub second_open : Option RecordPlace → List TurnMark → Option Cause
+second_open first [] = None
+second_open first (m ∷ marks) = option_or (opened_after first m) (second_open (open_with first m) marks)
+
+-- two records open the session: the first two
+abbrev pub opened_twice : List TurnMark → Option Cause
+opened_twice marks = second_open None marks
 
 -- ---- the causes
 

@@ -1,8 +1,9 @@
 //! A replay by the rooms that the session held at the break.
-ghost use Rattle.std.specs.Prelude.{◌≡◌, IfOk, Some, map, nat_eq, slice_get};
+ghost use Rattle.std.specs.Prelude.{◌≡◌, IfOk, Some, map, nat_eq, option_map, slice_get};
 ghost use Rattle.std.specs.Cmp.Lexicographic.{pointwise};
 ghost use Rattle.aud_maker.specs.Made.{IsMade};
-ghost use Rattle.aud_causes.specs.AtBreak.{came_within, due_at_break, first_past, first_taken, is_by_rooms_at_break, rooms_at_break};
+ghost use Rattle.aud_client.specs.StaySeen.{FrameSeen};
+ghost use Rattle.aud_causes.specs.AtBreak.{came_within, due_at_break, first_came, first_past, first_taken, is_by_rooms_at_break, rooms_at_break};
 
 use crate::cause::Cause;
 use crate::facts::{Facts, Replay, stay_at};
@@ -64,7 +65,8 @@ fn is_by_rooms_at_break(
     Ok(are_same(came.as_slice(), due.as_slice()))
 }
 
-fn are_same(came: &[u64], due: &[u64]) -> bool
+/// Whether exactly these came, in this order.
+pub(crate) fn are_same(came: &[u64], due: &[u64]) -> bool
     ensures { result ≡ pointwise nat_eq came.now due.now }
 {
     came == due
@@ -148,6 +150,21 @@ pub(crate) fn first_taken(stays: &[&Stay<'_>], facts: Facts) -> Option<u64>
     let replay = facts.replay?;
     let stay = stay_at(stays, facts.later)?;
     first_past(&stay.frames, replay.low)
+}
+
+/// The position of the first frame in the later stay, if there is one.
+pub(crate) fn first_came(stays: &[&Stay<'_>], facts: Facts) -> Option<u64>
+    ensures { result ≡ first_came (map (λ stay. stay.now) stays.now) facts }
+{
+    first_position(stay_at(stays, facts.later)?)
+}
+
+fn first_position(stay: &Stay<'_>) -> Option<u64>
+    ensures { result ≡ option_map (λ (frame : FrameSeen). frame.position)
+        (slice_get stay.now.frames 0) }
+{
+    let frame = stay.frames.get(0)?;
+    Some(frame.position)
 }
 
 /// The position of the first of the frames that is past this one.

@@ -41,9 +41,10 @@ fn equal_bodies(
     if !are_equal_bodies(recording, client, first, again) {
         return None;
     }
-    Some(Cause::EqualBodies {
+    Some(Cause::BodyCameTwice {
         first: facts.parted.first,
         again: facts.parted.again,
+        equal: true,
     })
 }
 
@@ -124,6 +125,7 @@ fn body_before(
     Some(Cause::BodyCameTwice {
         first: facts.parted.first,
         again: facts.parted.again,
+        equal: false,
     })
 }
 

@@ -10,12 +10,13 @@ use std::alloc::{AllocError, Global};
 
 static NOLOG: [&str; 2] = ["open-not-recorded", "node-not-tapped"];
 
-static CHAIN: [&str; 5] = [
+static CHAIN: [&str; 6] = [
     "node-not-tapped",
     "missing-break",
     "cleared-after-break",
     "turn-not-stored",
     "recovered-twice",
+    "opened-twice",
 ];
 
 static ORDER: [&str; 5] = [
@@ -26,7 +27,12 @@ static ORDER: [&str; 5] = [
     "not-in-stream",
 ];
 
-static CLIENT: [&str; 3] = ["two-taps", "no-client-tap", "reply-missing"];
+static CLIENT: [&str; 4] = [
+    "two-taps",
+    "no-client-tap",
+    "reply-missing",
+    "client-tap-has-no-packets",
+];
 
 static NAMES: [&str; 2] = ["sid-differs", "namespace-differs"];
 
@@ -61,16 +67,23 @@ static EXTRA: [&str; 10] = [
     "recovery-not-recorded",
 ];
 
-static DOUBLED: [&str; 6] = [
+static DOUBLED: [&str; 8] = [
     "node-behind-break",
     "sent-again-after-replay",
+    "replay-includes-offset",
     "stale-offset",
     "body-came-twice",
+    "doubled-in-replay",
     "doubled-live",
     "recovery-not-recorded",
 ];
 
-static SWAPPED: [&str; 3] = ["node-behind-break", "swapped-live", "recovery-not-recorded"];
+static SWAPPED: [&str; 4] = [
+    "node-behind-break",
+    "swapped-in-replay",
+    "swapped-live",
+    "recovery-not-recorded",
+];
 
 static LOST: [&str; 7] = [
     "rooms-at-break",

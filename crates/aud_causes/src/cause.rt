@@ -21,20 +21,27 @@ pub enum Cause {
         again: usize,
         low: u64,
     },
+    /// The first that came in a recovery was the entry after which the client had asked to go on.
+    ReplayIncludesOffset {
+        stay: usize,
+        again: usize,
+        after: u64,
+    },
+    /// An entry that the node had to send again came twice in one recovery.
+    DoubledInReplay {
+        first: usize,
+        again: usize,
+    },
     /// The client asked to go on after an entry before others that it had.
     StaleOffset {
         stay: usize,
         after: u64,
     },
-    /// What came twice had come in one body of polling.
+    /// What came twice had come in one body of polling before a recovery; or in two bodies of the same text, if `equal`.
     BodyCameTwice {
         first: usize,
         again: usize,
-    },
-    /// What came twice came in two bodies of polling of the same text.
-    EqualBodies {
-        first: usize,
-        again: usize,
+        equal: bool,
     },
     /// The client asked to go on after an entry that was not due to the session.
     OffsetOfAnotherSession {
@@ -77,6 +84,11 @@ pub enum Cause {
     },
     /// Two entries changed places while the client was connected.
     SwappedLive {
+        first: usize,
+        again: usize,
+    },
+    /// An entry that the node had to send again came late in its recovery.
+    SwappedInReplay {
         first: usize,
         again: usize,
     },
@@ -156,12 +168,15 @@ pub enum Cause {
         first: RecordPlace,
         again: RecordPlace,
     },
-    /// A node's log has records of the session, of which this is the first, and no log has its `open`.
-    OpenNotRecorded {
+    /// Two records open the session.
+    OpenedTwice {
         first: RecordPlace,
+        again: RecordPlace,
     },
-    /// A node is tapped, and no log has a record of the session.
-    OpenMissing,
+    /// A node is tapped, and no log has the `open` of the session; this is its first record in a node's log, if it has any.
+    OpenNotRecorded {
+        first: Option<RecordPlace>,
+    },
     /// No node's log has the begin of this turn, nor its `break`.
     NodeNotTapped {
         turn: usize,
@@ -198,6 +213,10 @@ pub enum Cause {
     NoClientTap,
     /// A client's tap, at this place, has a CONNECT or events of no known session.
     ReplyMissing {
+        client: usize,
+    },
+    /// The first connection of a client's tap, at this place, has no packet, and the session has one turn.
+    ClientTapHasNoPackets {
         client: usize,
     },
     /// A reply has another sid than the session's `open`.

@@ -5,25 +5,24 @@ ghost use Rattle.aud_maker.specs.Made.{IsMade};
 ghost use Rattle.aud_session_facts.specs.NotDue.{reason_of};
 ghost use Rattle.aud_causes.specs.Differences.{case_of, causes_by, difference_causes, doubled_causes, doubled_in, extra_causes, extra_in, frame_not_recorded, lost_causes, lost_in, offset_of_another, other_session_after, other_session_before, swapped_causes};
 
-use crate::at_break::{first_taken, rooms_at_break};
+use crate::at_break::{first_came, first_taken, rooms_at_break};
 use crate::behind::node_behind;
 use crate::bodies::body_twice;
 use crate::cause::Cause;
-use crate::extra::{
-    before_birth, change_missing, extra_live, late_leave, log_ended_early, rooms_named,
-};
+use crate::extra::{before_birth, change_missing, extra_live, late_leave, log_ended_early};
 use crate::facts::{Facts, facts_of};
-use crate::leavable::leave_missing_in;
+use crate::leavable::leave_missing;
 use crate::list::{held, push_cause};
 use crate::live::{
-    doubled_live, lost_live, sent_again, skipped_in_window, stale_offset, swapped_live,
+    doubled_in_replay, doubled_live, lost_live, replay_includes_offset, sent_again,
+    skipped_in_window, stale_offset, swapped_in_replay, swapped_live,
 };
 use crate::unrecorded::recovery_not_recorded;
 use aud_cert::Turn;
 use aud_check::Difference;
 use aud_client::{Recording, Stay};
 use aud_node::Logs;
-use aud_session_facts::{Account, NotDue, why_not_due};
+use aud_session_facts::{Account, NotDue, positions_received, why_not_due};
 use std::alloc::{AllocError, Global};
 
 /// The causes of the difference, of those that a difference of its kind can have. The account is the session's, and
@@ -123,8 +122,10 @@ fn doubled_causes(
         &[
             node_behind(logs, turns, facts),
             sent_again(facts, first_taken(stays, facts)),
+            replay_includes_offset(facts, first_came(stays, facts)),
             stale_offset(facts),
             body,
+            doubled_in_replay(facts),
             doubled_live(facts),
         ],
     )
@@ -141,7 +142,11 @@ fn swapped_causes(
 {
     held(
         alloc,
-        &[node_behind(logs, turns, facts), swapped_live(facts)],
+        &[
+            node_behind(logs, turns, facts),
+            swapped_in_replay(facts),
+            swapped_live(facts),
+        ],
     )
 }
 
@@ -183,24 +188,33 @@ fn lost_of(
 {
     let stays = account.stays.as_slice();
     let at_break = rooms_at_break(alloc, recording, &account.cert, stays, facts)?;
-    let rooms = rooms_named(recording.logs().stream().entry(facts.parted.position));
-    let leave = leave_missing_in(account.cert.turns.as_slice(), rooms, facts);
+    let came = positions_received(alloc, stays)?;
+    let leave = leave_missing(
+        alloc,
+        recording.logs(),
+        account.cert.pid.as_str(),
+        account.cert.turns.as_slice(),
+        account.cert.spans.as_slice(),
+        came.as_slice(),
+        facts,
+    )?;
     lost_causes(alloc, at_break, account.due.as_slice(), leave, facts)
 }
 
-/// Those of an entry that was not due, where this holds of the rooms at the break.
+/// Those of an entry that was not due, where this holds of the rooms at the break, and of a change of rooms that is missing.
 fn extra_causes(
     alloc: Global,
     logs: &Logs<'_>,
     pid: &str,
     turns: &[Turn<'_>],
     at_break: Option<Cause>,
+    missing: Option<Cause>,
     due: &[u64],
     why: &Option<NotDue<'_>>,
     facts: Facts,
 ) -> Result<Vec<Cause>, AllocError>
     ensures { IfOk result (λ found. found.items
-        ≡ extra_causes logs.now pid.now turns.now at_break due.now
+        ≡ extra_causes logs.now pid.now turns.now at_break missing due.now
         (option_map reason_of why.now) facts) }
 {
     let behind = node_behind(logs, turns, facts);
@@ -215,7 +229,7 @@ fn extra_causes(
             left,
             before_birth(logs, turns, why),
             extra_live(behind.or(left), why, facts),
-            change_missing(why, facts),
+            missing,
         ],
     )
 }
@@ -239,12 +253,18 @@ fn extra_of(
     let at_break = rooms_at_break(alloc, recording, &account.cert, stays, facts)?;
     let logs = recording.logs();
     let why = why_not_due(logs, &account.cert, position);
+    let pid = account.cert.pid.as_str();
+    let turns = account.cert.turns.as_slice();
+    let spans = account.cert.spans.as_slice();
+    let came = positions_received(alloc, stays)?;
+    let missing = change_missing(alloc, logs, pid, turns, spans, came.as_slice(), &why, facts)?;
     extra_causes(
         alloc,
         logs,
-        account.cert.pid.as_str(),
-        account.cert.turns.as_slice(),
+        pid,
+        turns,
         at_break,
+        missing,
         account.due.as_slice(),
         &why,
         facts,

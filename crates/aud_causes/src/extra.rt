@@ -1,18 +1,22 @@
 //! Why an event came that was not due.
-ghost use Rattle.std.specs.Prelude.{◌≡◌, map, option_map};
+ghost use Rattle.std.specs.Prelude.{◌≡◌, IfOk, Some, map, option_map};
 ghost use Rattle.std.specs.Option.{option_copied};
 ghost use Rattle.aud_cert.specs.Certificate.{turn_at};
 ghost use Rattle.aud_session_facts.specs.NotDue.{reason_of};
+ghost use Rattle.aud_session_facts.specs.Reasons.{Excepted, NoCommonRoom};
 ghost use Rattle.aud_causes.specs.Extra.{before_birth, change_missing, ends_turn, extra_live, first_left, goes_on, is_unaddressed, late_leave, left_before, log_ended_early, reached_at, rooms_named};
 
 use crate::behind::{first_of, last_of};
 use crate::cause::Cause;
+use crate::changed::{fits_with, fits_with_any};
 use crate::facts::Facts;
 use crate::live::is_outside;
 use aud_cert::Turn;
 use aud_node::Logs;
+use aud_rooms::Span;
 use aud_session_facts::{NotDue, Reach, RecordPlace, first_reach, greatest_high, last_change_of};
 use aud_tap::{NodeRec, StreamRec, Text};
+use std::alloc::{AllocError, Global};
 
 /// Where the session reached the entry in no turn, and the log of its last turn ends in that turn.
 pub(crate) fn log_ended_early(
@@ -179,18 +183,78 @@ fn is_unaddressed(why: &Option<NotDue<'_>>) -> bool
     }
 }
 
-/// Where the entry came in no replay, and would be due if the session had joined one of its rooms, or had left the one
-/// that it excepts.
-pub(crate) fn change_missing(why: &Option<NotDue<'_>>, facts: Facts) -> Option<Cause>
-    ensures { result ≡ change_missing (option_map reason_of why.now) facts }
+/// Where the entry came in no replay, and what came from it on is what was due if the session of these turns and spans had
+/// joined one of its rooms before, or had left the one that it excepts. These are the positions of all that came.
+pub(crate) fn change_missing(
+    alloc: Global,
+    logs: &Logs<'_>,
+    pid: &str,
+    turns: &[Turn<'_>],
+    spans: &[Span<'_>],
+    came: &[u64],
+    why: &Option<NotDue<'_>>,
+    facts: Facts,
+) -> Result<Option<Cause>, AllocError>
+    ensures { IfOk result (λ cause. cause ≡ change_missing logs.now pid.now turns.now spans.now
+        came.now (option_map reason_of why.now) facts) }
+{
+    match why {
+        Some(NotDue::NoCommonRoom) => { join_missing(alloc, logs, pid, turns, spans, came, facts) }
+        Some(NotDue::Excepted { room }) => {
+            excepted_missing(alloc, logs, pid, turns, spans, came, *room, facts)
+        }
+        _ => Ok(None),
+    }
+}
+
+/// Of an entry that is for rooms, where the session held none of them.
+fn join_missing(
+    alloc: Global,
+    logs: &Logs<'_>,
+    pid: &str,
+    turns: &[Turn<'_>],
+    spans: &[Span<'_>],
+    came: &[u64],
+    facts: Facts,
+) -> Result<Option<Cause>, AllocError>
+    ensures { IfOk result (λ cause. cause ≡ change_missing logs.now pid.now turns.now spans.now
+        came.now (Some NoCommonRoom) facts) }
 {
     if !is_outside(facts) {
-        return None;
+        return Ok(None);
     }
-    let frame = facts.parted.again;
-    match why {
-        Some(NotDue::NoCommonRoom) => Some(Cause::JoinMissing { frame }),
-        Some(NotDue::Excepted { .. }) => Some(Cause::LeaveMissing { frame }),
-        _ => None,
+    let position = facts.parted.position;
+    let rooms = rooms_named(logs.stream().entry(position));
+    if !fits_with_any(alloc, logs, pid, turns, spans, came, true, position, rooms)? {
+        return Ok(None);
     }
+    Ok(Some(Cause::JoinMissing {
+        frame: facts.parted.again,
+    }))
+}
+
+/// Of an entry that excepts this room, which the session held.
+fn excepted_missing(
+    alloc: Global,
+    logs: &Logs<'_>,
+    pid: &str,
+    turns: &[Turn<'_>],
+    spans: &[Span<'_>],
+    came: &[u64],
+    room: &str,
+    facts: Facts,
+) -> Result<Option<Cause>, AllocError>
+    ensures { IfOk result (λ cause. cause ≡ change_missing logs.now pid.now turns.now spans.now
+        came.now (Some (Excepted room.now)) facts) }
+{
+    if !is_outside(facts) {
+        return Ok(None);
+    }
+    let position = facts.parted.position;
+    if !fits_with(alloc, logs, pid, turns, spans, came, false, position, room)? {
+        return Ok(None);
+    }
+    Ok(Some(Cause::LeaveMissing {
+        frame: facts.parted.again,
+    }))
 }

@@ -1,33 +1,53 @@
 //! A `leave` that no log has, of an entry that was lost.
-ghost use Rattle.std.specs.Prelude.{◌≡◌};
+ghost use Rattle.std.specs.Prelude.{◌≡◌, IfOk};
 ghost use Rattle.aud_session_facts.specs.Opened.{opened_in};
-ghost use Rattle.aud_causes.specs.Leavable.{are_leavable, leave_missing, leave_missing_in, own_room};
+ghost use Rattle.aud_causes.specs.Leavable.{are_leavable, is_leavable, leave_missing, own_room};
 
 use crate::cause::Cause;
+use crate::changed::fits_with_any;
+use crate::extra::rooms_named;
 use crate::facts::Facts;
 use crate::live::is_taken_live;
 use aud_cert::Turn;
+use aud_node::Logs;
+use aud_rooms::Span;
 use aud_session_facts::opened_in;
 use aud_tap::Text;
+use std::alloc::{AllocError, Global};
 
-/// Where the entry was left out while the client was connected, and would not be due if the session of these turns had
-/// left the rooms that the entry is for.
-pub(crate) fn leave_missing_in(turns: &[Turn<'_>], rooms: &[Text], facts: Facts) -> Option<Cause>
-    ensures { result ≡ leave_missing_in turns.now rooms.now facts }
+/// Where the entry was left out while the client was connected, and what came from it on is what was due if the session
+/// of these turns and spans had left one of the rooms that the entry is for. These are the positions of all that came.
+pub(crate) fn leave_missing(
+    alloc: Global,
+    logs: &Logs<'_>,
+    pid: &str,
+    turns: &[Turn<'_>],
+    spans: &[Span<'_>],
+    came: &[u64],
+    facts: Facts,
+) -> Result<Option<Cause>, AllocError>
+    ensures { IfOk result (λ cause. cause
+        ≡ leave_missing logs.now pid.now turns.now spans.now came.now facts) }
 {
-    leave_missing(own_room(turns), rooms, facts)
+    let position = facts.parted.position;
+    let rooms = rooms_named(logs.stream().entry(position));
+    if !is_leavable(turns, rooms, facts) {
+        return Ok(None);
+    }
+    if !fits_with_any(alloc, logs, pid, turns, spans, came, false, position, rooms)? {
+        return Ok(None);
+    }
+    Ok(Some(Cause::LeaveMissing {
+        frame: facts.parted.again,
+    }))
 }
 
-/// The same of the session whose own room this is.
-fn leave_missing(own: &str, rooms: &[Text], facts: Facts) -> Option<Cause>
-    ensures { result ≡ leave_missing own.now rooms.now facts }
+/// Whether the entry, which is for these rooms, was left out while the client was connected, and none of them is the
+/// session's own.
+fn is_leavable(turns: &[Turn<'_>], rooms: &[Text], facts: Facts) -> bool
+    ensures { result ≡ is_leavable turns.now rooms.now facts }
 {
-    if !is_taken_live(facts) || !are_leavable(own, rooms) {
-        return None;
-    }
-    Some(Cause::LeaveMissing {
-        frame: facts.parted.again,
-    })
+    is_taken_live(facts) && are_leavable(own_room(turns), rooms)
 }
 
 /// The room that is named by the sid of the session's `open`.

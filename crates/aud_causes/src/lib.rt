@@ -22,11 +22,13 @@
 #![tactic(auto)]
 
 mod at_break;
+mod bare;
 mod behind;
 mod bodies;
 mod candidates;
 mod cause;
 mod causes;
+mod changed;
 mod cleared;
 mod contents;
 mod delivery;
@@ -43,6 +45,7 @@ mod list;
 mod live;
 mod logs;
 mod names;
+mod next_change;
 mod no_packet;
 mod orphans;
 mod record_at;

@@ -1,6 +1,6 @@
 //! Causes that go by the facts of a difference alone.
 ghost use Rattle.std.specs.Prelude.{◌≡◌};
-ghost use Rattle.aud_causes.specs.Delivery.{doubled_live, is_live, is_outside, is_taken_live, lost_live, sent_again, skipped_in_window, stale_offset, swapped_live, is_replayed};
+ghost use Rattle.aud_causes.specs.Delivery.{doubled_in_replay, doubled_live, is_in_replay, is_live, is_outside, is_replayed, is_taken_live, lost_live, replay_includes_offset, sent_again, skipped_in_window, stale_offset, swapped_in_replay, swapped_live};
 
 use crate::cause::Cause;
 use crate::facts::{Facts, Replay};
@@ -56,6 +56,43 @@ pub(crate) fn swapped_live(facts: Facts) -> Option<Cause>
     })
 }
 
+/// Whether both frames stand in one recovery, in which the entry was to be sent again.
+fn is_in_replay(facts: Facts) -> bool
+    ensures { result ≡ is_in_replay facts }
+{
+    if facts.earlier != facts.later {
+        return false;
+    }
+    match facts.replay {
+        Some(replay) => is_replayed(replay, facts.parted.position),
+        None => false,
+    }
+}
+
+pub(crate) fn doubled_in_replay(facts: Facts) -> Option<Cause>
+    ensures { result ≡ doubled_in_replay facts }
+{
+    if !is_in_replay(facts) {
+        return None;
+    }
+    Some(Cause::DoubledInReplay {
+        first: facts.parted.first,
+        again: facts.parted.again,
+    })
+}
+
+pub(crate) fn swapped_in_replay(facts: Facts) -> Option<Cause>
+    ensures { result ≡ swapped_in_replay facts }
+{
+    if !is_in_replay(facts) {
+        return None;
+    }
+    Some(Cause::SwappedInReplay {
+        first: facts.parted.first,
+        again: facts.parted.again,
+    })
+}
+
 /// Whether the node took the entry after it took the session back, if it did so.
 pub(crate) fn is_taken_live(facts: Facts) -> bool
     ensures { result ≡ is_taken_live facts }
@@ -92,6 +129,21 @@ pub(crate) fn sent_again(facts: Facts, past: Option<u64>) -> Option<Cause>
         first: facts.parted.first,
         again: facts.parted.again,
         low: replay.low,
+    })
+}
+
+/// Where this is the position of the first frame in the later stay.
+pub(crate) fn replay_includes_offset(facts: Facts, came: Option<u64>) -> Option<Cause>
+    ensures { result ≡ replay_includes_offset facts came }
+{
+    let after = facts.asked?;
+    if facts.later <= facts.earlier || after != facts.parted.position || came != Some(after) {
+        return None;
+    }
+    Some(Cause::ReplayIncludesOffset {
+        stay: facts.later,
+        again: facts.parted.again,
+        after,
     })
 }
 

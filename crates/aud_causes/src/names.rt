@@ -5,6 +5,7 @@ ghost use Rattle.aud_client.specs.Received.{transcript_at};
 ghost use Rattle.aud_client.specs.Replies.{naming_places};
 ghost use Rattle.aud_causes.specs.Names.{client_causes, has_unanswered, has_unnamed, is_unanswered, named_causes, namespace_differs, other_namespace, other_sid, reply_missing, sid_differs, unnamed_causes, unnamed_from};
 
+use crate::bare::tap_without_packets;
 use crate::cause::Cause;
 use crate::list::held;
 use crate::orphans::{is_disconnect, last_of_stay};
@@ -13,27 +14,37 @@ use aud_tap::Tap;
 use std::alloc::{AllocError, Global};
 
 /// Where not exactly one client's tap names the session. Where none does it costs the stays of the clients' taps, up to
-/// the first that was not answered; of a stay without a reply its last record is looked at.
+/// the first that was not answered, and the session's own records; of a stay without a reply its last record is looked
+/// at.
 pub(crate) fn client_causes(
     alloc: Global,
     recording: &Recording<'_>,
     pid: &str,
 ) -> Result<Vec<Cause>, AllocError>
     ensures { IfOk result (λ found. found.items
-        ≡ client_causes recording.now (length (naming_places recording.now.taps pid.now))) }
+        ≡ client_causes recording.now pid.now
+        (length (naming_places recording.now.taps pid.now))) }
 {
     match recording.naming(pid).len() {
-        0 => unnamed_causes(alloc, recording),
+        0 => unnamed_causes(alloc, recording, pid),
         1 => Ok(Vec::new(alloc)),
         taps => held(alloc, &[Some(Cause::TwoTaps { taps })]),
     }
 }
 
 /// The same where none does.
-fn unnamed_causes(alloc: Global, recording: &Recording<'_>) -> Result<Vec<Cause>, AllocError>
-    ensures { IfOk result (λ found. found.items ≡ unnamed_causes recording.now) }
+fn unnamed_causes(
+    alloc: Global,
+    recording: &Recording<'_>,
+    pid: &str,
+) -> Result<Vec<Cause>, AllocError>
+    ensures { IfOk result (λ found. found.items ≡ unnamed_causes recording.now pid.now) }
 {
-    held(alloc, &[Some(Cause::NoClientTap), reply_missing(recording)])
+    let bare = tap_without_packets(alloc, recording.logs(), pid)?;
+    held(
+        alloc,
+        &[Some(Cause::NoClientTap), reply_missing(recording), bare],
+    )
 }
 
 /// Where a client's tap has a CONNECT or events of no known session: the first such tap.

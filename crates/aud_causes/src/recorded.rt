@@ -42,7 +42,10 @@ fn no_log_causes(alloc: Global, logs: &Logs<'_>, pid: &str) -> Result<Vec<Cause>
     ensures { IfOk result (λ found. found.items ≡ no_log_causes logs.now pid.now) }
 {
     match first_own(logs, pid) {
-        Some(first) => held(alloc, &[Some(Cause::OpenNotRecorded { first })]),
+        Some(first) => held(
+            alloc,
+            &[Some(Cause::OpenNotRecorded { first: Some(first) })],
+        ),
         None => held(
             alloc,
             &[open_missing(logs), Some(Cause::NodeNotTapped { turn: 0 })],
@@ -57,7 +60,7 @@ fn open_missing(logs: &Logs<'_>) -> Option<Cause>
     if !has_node(logs.taps()) {
         return None;
     }
-    Some(Cause::OpenMissing)
+    Some(Cause::OpenNotRecorded { first: None })
 }
 
 /// Whether one of the taps is a node's.

@@ -47,6 +47,20 @@ pub(crate) fn row_of(cause: Cause) -> Row
             figures: [Some(Number(low)), None, None],
             todo: "let the replay end at the node's cursor, or drop what it sent from what the node takes.",
         },
+        Cause::ReplayIncludesOffset { stay, again, after } => Row {
+            id: "replay-includes-offset",
+            records: Two(Ask(stay), Got(again)),
+            why: "The client asked to go on after entry #, and that entry came first.",
+            figures: [Some(Number(after)), None, None],
+            todo: "let the replay begin after the offset: in Redis `XRANGE` from `(OFFSET`, or skip the first.",
+        },
+        Cause::DoubledInReplay { first, again } => Row {
+            id: "doubled-in-replay",
+            records: Two(Got(first), Got(again)),
+            why: "The entry is one of those to be sent again, and came twice in one recovery.",
+            figures: [None; 3],
+            todo: "look at how the node reads the stream for the replay: no entry may stand in two of its pages.",
+        },
         Cause::StaleOffset { stay, after } => Row {
             id: "stale-offset",
             records: One(Ask(stay)),
@@ -54,14 +68,22 @@ pub(crate) fn row_of(cause: Cause) -> Row
             figures: [Some(Number(after)), None, None],
             todo: "store the offset with each event, before the event is worked on.",
         },
-        Cause::BodyCameTwice { first, again } => Row {
+        Cause::BodyCameTwice {
+            first,
+            again,
+            equal: false,
+        } => Row {
             id: "body-came-twice",
             records: Two(Got(first), Got(again)),
             why: "From this entry on, all that came before the recovery had come in one body of polling.",
             figures: [None; 3],
             todo: "see whether the client refused that body, for its packets are too many or too long.",
         },
-        Cause::EqualBodies { first, again } => Row {
+        Cause::BodyCameTwice {
+            first,
+            again,
+            equal: true,
+        } => Row {
             id: "body-came-twice",
             records: Two(Got(first), Got(again)),
             why: "The two bodies of polling in which the entry came are the same, byte for byte.",
@@ -130,6 +152,13 @@ pub(crate) fn row_of(cause: Cause) -> Row
             why: "No recovery stands between the two frames: they changed places while the client was connected.",
             figures: [None; 3],
             todo: "look at what stands between the node and the client, and at what the node sent.",
+        },
+        Cause::SwappedInReplay { first, again } => Row {
+            id: "swapped-in-replay",
+            records: Two(Got(first), Got(again)),
+            why: "The entry is one of those to be sent again, and came late in its recovery.",
+            figures: [None; 3],
+            todo: "send what is read for the replay in the stream's order, and before what the node takes.",
         },
         Cause::AnotherEncoder { frame, part } => Row {
             id: "another-encoder",
@@ -261,14 +290,21 @@ pub(crate) fn row_of(cause: Cause) -> Row
             figures: [Some(Number(turn as u64)), None, None],
             todo: "take a stored session out of the store in one step, so that one node alone gets it.",
         },
-        Cause::OpenNotRecorded { first } => Row {
+        Cause::OpenedTwice { first, again } => Row {
+            id: "opened-twice",
+            records: Two(Node(first), Node(again)),
+            why: "The log of # has an `open` of the session, and that of # has another.",
+            figures: [Some(Name(first.node)), Some(Name(again.node)), None],
+            todo: "give each session a pid of its own; see whether two taps have one node's log.",
+        },
+        Cause::OpenNotRecorded { first: Some(first) } => Row {
             id: "open-not-recorded",
             records: One(Node(first)),
             why: "The log of # has records of the session, and no log has its `open`.",
             figures: [Some(Name(first.node)), None, None],
             todo: "write an `open` when the session opens, unbuffered; look at how logs are rotated.",
         },
-        Cause::OpenMissing => Row {
+        Cause::OpenNotRecorded { first: None } => Row {
             id: "open-not-recorded",
             records: Nothing,
             why: "No log has a record of the session, though a node is tapped: its `open` may be missing.",
@@ -353,6 +389,13 @@ pub(crate) fn row_of(cause: Cause) -> Row
             why: "The tap of # has a CONNECT or events, and no reply that names their session.",
             figures: [Some(Name(client)), None, None],
             todo: "begin a client's tap before its first packet, and record each answer to a CONNECT.",
+        },
+        Cause::ClientTapHasNoPackets { client } => Row {
+            id: "client-tap-has-no-packets",
+            records: Nothing,
+            why: "The first connection in the tap of # has no packet: it may be the session's.",
+            figures: [Some(Name(client)), None, None],
+            todo: "begin to record a connection's packets before its first one; see why it ended.",
         },
         Cause::SidDiffers { stay } => Row {
             id: "sid-differs",

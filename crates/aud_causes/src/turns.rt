@@ -10,7 +10,7 @@ use crate::cleared::push_cleared;
 use crate::last_turn::is_end;
 use crate::list::push_cause;
 use crate::logs::recoveries;
-use crate::twice::{is_as_often, push_twice};
+use crate::twice::{is_as_often, opened_twice, push_twice};
 use aud_client::Stay;
 use aud_node::Logs;
 use aud_session_facts::{Mark, RecordPlace, TurnMark};
@@ -48,6 +48,7 @@ pub(crate) fn chain_causes(
         is_as_often(marks, &came),
         marks,
     )?;
+    push_cause(&mut found, opened_twice(marks))?;
     Ok(found)
 }
 

@@ -1,7 +1,7 @@
 //! A turn for which two records take the session back.
 ghost use Rattle.std.specs.Prelude.{◌≡◌, ◌++◌, OnOk};
 ghost use Rattle.std.specs.Option.{option_copied};
-ghost use Rattle.aud_causes.specs.Twice.{back_turn, causes_of_twice, is_as_often, is_back, is_place, is_so, recovered_twice, turn_not_stored, twice_at, twice_causes};
+ghost use Rattle.aud_causes.specs.Twice.{back_turn, causes_of_twice, is_as_often, is_back, is_open, is_place, is_so, open_with, opened_after, opened_twice, recovered_twice, turn_not_stored, twice_at, twice_causes};
 
 use crate::cause::Cause;
 use crate::list::push_cause;
@@ -136,4 +136,46 @@ fn recovered_twice(twice: Twice) -> Option<Cause>
         first: twice.first,
         again: twice.again,
     })
+}
+
+/// Where two records open the session: the first two.
+pub(crate) fn opened_twice(marks: &[TurnMark]) -> Option<Cause>
+    ensures { result ≡ opened_twice marks.now }
+{
+    let mut found = None;
+    let mut first = None;
+    for mark in marks {
+        found = found.or(opened_after(first, *mark));
+        first = open_with(first, *mark);
+    }
+    found
+}
+
+/// Where the record opens the session, and so did this one before it, if there is one.
+fn opened_after(first: Option<RecordPlace>, mark: TurnMark) -> Option<Cause>
+    ensures { result ≡ opened_after first mark }
+{
+    if !is_open(mark.mark) {
+        return None;
+    }
+    Some(Cause::OpenedTwice {
+        first: first?,
+        again: mark.place,
+    })
+}
+
+/// The last record so far that opens the session, after this record too.
+fn open_with(first: Option<RecordPlace>, mark: TurnMark) -> Option<RecordPlace>
+    ensures { result ≡ open_with first mark }
+{
+    if is_open(mark.mark) {
+        return Some(mark.place);
+    }
+    first
+}
+
+fn is_open(mark: Mark) -> bool
+    ensures { result ≡ is_open mark }
+{
+    matches!(mark, Mark::Open)
 }

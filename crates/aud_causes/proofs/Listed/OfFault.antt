@@ -83,7 +83,7 @@ recorded_listed c client pid unordered fault.Chain found is =
     ap (list_all (is_listed fault.Chain)) is ∙ chain_listed c pid (turn_marks c pid) (stays_of_client c client pid)
 recorded_listed c client pid unordered fault.Order found is = ap (list_all (is_listed fault.Order)) is ∙ order_listed c unordered
 recorded_listed c client pid unordered fault.Client found is =
-    ap (list_all (is_listed fault.Client)) is ∙ client_listed c (length (naming_places c.taps pid))
+    ap (list_all (is_listed fault.Client)) is ∙ client_listed c pid (length (naming_places c.taps pid))
 recorded_listed c client pid unordered other found is = ap (list_all (is_listed other)) is
 
 -- ---- as they are told

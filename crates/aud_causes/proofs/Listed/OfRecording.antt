@@ -1,5 +1,5 @@
 -- The causes of a fault for which a session has no certificate have names of that fault's list.
-use Rattle.std.proofs.Common.{◌≡◌, ℕ, suc, zero, Bool, true, List, [], ◌∷◌, Option, Some, None, ◌++◌, ◌||◌, length, nat_eq, nat_le, nat_lt, not, refl, slice_get}
+use Rattle.std.proofs.Common.{◌≡◌, ℕ, suc, zero, Bool, true, List, [], ◌∷◌, Option, Some, None, option_map, ◌++◌, ◌||◌, length, nat_eq, nat_le, nat_lt, not, refl, slice_get}
 use Rattle.std.specs.Prelude.{option_to_list}
 use Rattle.std.specs.List.{list_all, list_any}
 use Rattle.aud_base.specs.Lists.{numbers_from}
@@ -15,20 +15,22 @@ use Rattle.aud_node.specs.OwnRecords.{own_numbers}
 use Rattle.aud_node.specs.Stream.{Text, position}
 use Rattle.aud_client.specs.StaySeen.{StaySeen}
 use Rattle.aud_cert.specs.declared.fault.Fault.TheVariants as fault
+use Rattle.aud_session_facts.specs.Marks.{turn_marks}
 use Rattle.aud_session_facts.specs.declared.marks.TurnMark.{TurnMark}
 use Rattle.aud_session_facts.specs.declared.place.RecordPlace.{RecordPlace}
 use Rattle.aud_causes.specs.declared.cause.Cause.{Cause}
-use Rattle.aud_causes.specs.declared.cause.Cause.TheVariants.{EntriesSkippedByNode, EntryTakenAgain, MissingBreak, NoClientTap, NodeNotTapped, OpenMissing, RecoveredTwice, ReplyMissing, TurnNotStored}
+use Rattle.aud_causes.specs.declared.cause.Cause.TheVariants.{ClientTapHasNoPackets, EntriesSkippedByNode, EntryTakenAgain, MissingBreak, NoClientTap, NodeNotTapped, OpenedTwice, OpenNotRecorded, RecoveredTwice, ReplyMissing, TurnNotStored}
 use Rattle.aud_causes.specs.declared.turns.Unbroken.{Unbroken}
 use Rattle.aud_causes.specs.declared.twice.Twice.{Twice}
+use Rattle.aud_causes.specs.Bare.{bare_from, first_bare, tap_without_packets}
 use Rattle.aud_causes.specs.Chain.{chain_causes}
 use Rattle.aud_causes.specs.Cleared.{broke_by, cleared_after_break, cleared_at, cleared_by, cleared_in, cleared_on, first_cleared, place_on}
 use Rattle.aud_causes.specs.Logs.{first_cause, later_cause, order_cause, record_cause, recoveries, take_cause, taken_again, takes_cause, unknown}
 use Rattle.aud_causes.specs.Names.{client_causes, reply_missing, unnamed_from}
 use Rattle.aud_causes.specs.Recorded.{first_own, is_node, no_log_causes, open_missing, opened_by, order_causes}
-use Rattle.aud_causes.specs.Turns.{begins_of, breaks_of, ends_of, is_untapped, missing_break, missing_breaks, missing_by, missing_causes, not_tapped, recovery_after, unbroken_at}
+use Rattle.aud_causes.specs.Turns.{begins_of, breaks_of, ends_of, is_untapped, missing_break, missing_breaks, missing_by, missing_causes, not_tapped, recovery_after, turn_count, unbroken_at}
 use Rattle.aud_causes.specs.Differences.{cause_and}
-use Rattle.aud_causes.specs.Twice.{causes_of_twice, is_as_often, is_so, recovered_twice, turn_not_stored, twice_at, twice_causes}
+use Rattle.aud_causes.specs.Twice.{causes_of_twice, is_as_often, is_open, is_so, open_with, opened_after, opened_twice, recovered_twice, second_open, turn_not_stored, twice_at, twice_causes}
 use Rattle.aud_causes.proofs.Listed.Each.{OfSome, is_listed, of_and, of_both, of_choice, of_each, of_held, of_if, of_list, of_map, of_or, of_then}
 
 -- ---- NOLOG
@@ -40,7 +42,7 @@ in_no_log = is_listed fault.NoLog
 opened_listed : (c : Cluster) (first : Option RecordPlace) → list_all in_no_log (opened_by c first) ≡ true
 opened_listed c (Some first) = refl
 opened_listed c None =
-    of_held in_no_log (open_missing c ∷ Some (NodeNotTapped 0) ∷ []) (of_if in_no_log (list_any is_node c.taps) OpenMissing refl, (refl, tt))
+    of_held in_no_log (open_missing c ∷ Some (NodeNotTapped 0) ∷ []) (of_if in_no_log (list_any is_node c.taps) (OpenNotRecorded None) refl, (refl, tt))
 
 pub no_log_listed : (c : Cluster) (pid : Text) → list_all in_no_log (no_log_causes c pid) ≡ true
 no_log_listed c pid = opened_listed c (first_own c pid)
@@ -107,19 +109,32 @@ twice_listed ended as_often (Some t) =
     (of_if in_chain (not (nat_eq t.first.node t.again.node)) (RecoveredTwice t.turn t.first t.again) refl)
     refl)
 
+opened_after_listed : (first : Option RecordPlace) (m : TurnMark) → OfSome in_chain (opened_after first m)
+opened_after_listed first m =
+    of_choice in_chain (is_open m.mark) (option_map (λ (f : RecordPlace). OpenedTwice f m.place) first) None
+    (of_map in_chain (λ (f : RecordPlace). OpenedTwice f m.place) (λ f. refl) first) tt
+
+second_open_listed : (first : Option RecordPlace) (marks : List TurnMark) → OfSome in_chain (second_open first marks)
+second_open_listed first [] = tt
+second_open_listed first (m ∷ marks) =
+    of_or in_chain (opened_after first m) (second_open (open_with first m) marks)
+    (opened_after_listed first m) (second_open_listed (open_with first m) marks)
+
 pub chain_listed : (c : Cluster) (pid : Text) (marks : List TurnMark) (stays : List StaySeen) → list_all in_chain (chain_causes c pid marks stays) ≡ true
 chain_listed c pid marks stays =
     let as_often = is_as_often marks (recoveries stays) in
     let twice = twice_causes (begins_of marks) (ends_of marks) as_often marks in
     let missing = missing_causes (begins_of marks) (breaks_of marks) (ends_of marks) (recoveries stays) in
     let cleared = cleared_after_break c pid in
-    of_both in_chain (missing ++ cleared) twice
+    of_both in_chain (missing ++ cleared ++ twice) (option_to_list (opened_twice marks))
+    (of_both in_chain (missing ++ cleared) twice
     (of_both in_chain missing cleared
     (missing_listed (begins_of marks) (breaks_of marks) (ends_of marks) (recoveries stays))
     (cleared_listed c pid (own_places c pid)))
     (of_each in_chain (λ m. causes_of_twice (ends_of marks) as_often (twice_at (begins_of marks) m))
     (λ m. twice_listed (ends_of marks) as_often (twice_at (begins_of marks) m))
-    marks)
+    marks))
+    (of_list in_chain (opened_twice marks) (second_open_listed None marks))
 
 -- ---- ORDER
 
@@ -174,9 +189,14 @@ order_listed c unordered =
 abbrev in_client : Cause → Bool
 in_client = is_listed fault.Client
 
-pub client_listed : (c : Cluster) (count : ℕ) → list_all in_client (client_causes c count) ≡ true
-client_listed c zero =
-    of_held in_client (Some NoClientTap ∷ reply_missing c ∷ [])
-    (refl, (of_map in_client ReplyMissing (λ client. refl) (unnamed_from c 0 c.taps), tt))
-client_listed c (suc zero) = refl
-client_listed c (suc (suc more)) = refl
+without_listed : (c : Cluster) (pid : Text) → OfSome in_client (tap_without_packets c pid)
+without_listed c pid =
+    of_choice in_client (nat_eq (turn_count 0 (turn_marks c pid)) 1) (first_bare c.taps) None
+    (of_map in_client ClientTapHasNoPackets (λ client. refl) (bare_from 0 c.taps)) tt
+
+pub client_listed : (c : Cluster) (pid : Text) (count : ℕ) → list_all in_client (client_causes c pid count) ≡ true
+client_listed c pid zero =
+    of_held in_client (Some NoClientTap ∷ reply_missing c ∷ tap_without_packets c pid ∷ [])
+    (refl, (of_map in_client ReplyMissing (λ client. refl) (unnamed_from c 0 c.taps), (without_listed c pid, tt)))
+client_listed c pid (suc zero) = refl
+client_listed c pid (suc (suc more)) = refl

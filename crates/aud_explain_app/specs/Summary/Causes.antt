@@ -9,19 +9,20 @@ use Rattle.aud_explain_app.specs.declared.summary.causes.CausesTold.{CausesTold}
 -- the names of all causes, in the order in which a summary has them
 unfoldable pub cause_names : List Text
 cause_names =
-    codes "node-behind-break" ∷ codes "sent-again-after-replay" ∷ codes "rooms-at-break" ∷ codes "skipped-in-window"
-    ∷ codes "stale-offset" ∷ codes "body-came-twice" ∷ codes "offset-of-another-session" ∷ codes "frame-not-recorded"
-    ∷ codes "unknown-offset" ∷ codes "no-offset" ∷ codes "lost-live" ∷ codes "doubled-live"
-    ∷ codes "swapped-live" ∷ codes "another-encoder" ∷ codes "attachments-reordered" ∷ codes "another-event"
-    ∷ codes "altered" ∷ codes "log-ended-early" ∷ codes "late-leave" ∷ codes "before-birth"
-    ∷ codes "extra-live" ∷ codes "join-missing" ∷ codes "leave-missing" ∷ codes "recovery-not-recorded"
-    ∷ codes "missing-break" ∷ codes "cleared-after-break" ∷ codes "turn-not-stored" ∷ codes "recovered-twice"
+    codes "node-behind-break" ∷ codes "sent-again-after-replay" ∷ codes "replay-includes-offset" ∷ codes "doubled-in-replay"
+    ∷ codes "swapped-in-replay" ∷ codes "rooms-at-break" ∷ codes "skipped-in-window" ∷ codes "stale-offset"
+    ∷ codes "body-came-twice" ∷ codes "offset-of-another-session" ∷ codes "frame-not-recorded" ∷ codes "unknown-offset"
+    ∷ codes "no-offset" ∷ codes "lost-live" ∷ codes "doubled-live" ∷ codes "swapped-live"
+    ∷ codes "another-encoder" ∷ codes "attachments-reordered" ∷ codes "another-event" ∷ codes "altered"
+    ∷ codes "log-ended-early" ∷ codes "late-leave" ∷ codes "before-birth" ∷ codes "extra-live"
+    ∷ codes "join-missing" ∷ codes "leave-missing" ∷ codes "recovery-not-recorded" ∷ codes "missing-break"
+    ∷ codes "cleared-after-break" ∷ codes "turn-not-stored" ∷ codes "recovered-twice" ∷ codes "opened-twice"
     ∷ codes "node-not-tapped" ∷ codes "open-not-recorded" ∷ codes "no-start" ∷ codes "restarted-in-old-log"
     ∷ codes "entries-skipped-by-node" ∷ codes "entry-taken-again" ∷ codes "not-in-stream" ∷ codes "two-taps"
-    ∷ codes "no-client-tap" ∷ codes "reply-missing" ∷ codes "sid-differs" ∷ codes "namespace-differs"
-    ∷ codes "not-a-packet" ∷ codes "cut-before-reply" ∷ codes "reply-without-pid" ∷ codes "tap-began-late"
-    ∷ codes "out-after-answer" ∷ codes "second-connect" ∷ codes "after-disconnect" ∷ codes "session-over"
-    ∷ codes "asked-too-early" ∷ codes "node-ended-in-turn" ∷ codes "never-broken" ∷ []
+    ∷ codes "no-client-tap" ∷ codes "reply-missing" ∷ codes "client-tap-has-no-packets" ∷ codes "sid-differs"
+    ∷ codes "namespace-differs" ∷ codes "not-a-packet" ∷ codes "cut-before-reply" ∷ codes "reply-without-pid"
+    ∷ codes "tap-began-late" ∷ codes "out-after-answer" ∷ codes "second-connect" ∷ codes "after-disconnect"
+    ∷ codes "session-over" ∷ codes "asked-too-early" ∷ codes "node-ended-in-turn" ∷ codes "never-broken" ∷ []
 
 -- the text that is borrowed
 abbrev pub name_of : Bor Text → Text

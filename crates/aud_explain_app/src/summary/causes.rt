@@ -13,9 +13,12 @@ pub struct CausesTold {
     pub others: usize,
 }
 
-static NAMES: [&str; 51] = [
+static NAMES: [&str; 56] = [
     "node-behind-break",
     "sent-again-after-replay",
+    "replay-includes-offset",
+    "doubled-in-replay",
+    "swapped-in-replay",
     "rooms-at-break",
     "skipped-in-window",
     "stale-offset",
@@ -42,6 +45,7 @@ static NAMES: [&str; 51] = [
     "cleared-after-break",
     "turn-not-stored",
     "recovered-twice",
+    "opened-twice",
     "node-not-tapped",
     "open-not-recorded",
     "no-start",
@@ -52,6 +56,7 @@ static NAMES: [&str; 51] = [
     "two-taps",
     "no-client-tap",
     "reply-missing",
+    "client-tap-has-no-packets",
     "sid-differs",
     "namespace-differs",
     "not-a-packet",

@@ -11,7 +11,7 @@ static FAULTS: [&str; 13] = [
     r#"explain --json --pid p1
 2 1 c1@1 e:a t1 lose x1 t2 r1@2
 -> Ok(SomeNo)
-*"causes":[{"id":"missing-break",*"of":"fault","of_line":null,"state":"certain","sure":true,*}],"class":*"fault":"CHAIN",*"refused":[],"refuted":["node-not-tapped","cleared-after-break","turn-not-stored","recovered-twice"],"tail":*"#,
+*"causes":[{"id":"missing-break",*"of":"fault","of_line":null,"state":"certain","sure":true,*}],"class":*"fault":"CHAIN",*"refused":[],"refuted":["node-not-tapped","cleared-after-break","turn-not-stored","recovered-twice","opened-twice"],"tail":*"#,
     r#"explain --json --pid p1
 1 1 c1@1 e:a repeat t1
 -> Ok(SomeNo)
@@ -19,7 +19,7 @@ static FAULTS: [&str; 13] = [
     r#"explain --json --pid p1
 1 1 u1@1 e:a t1
 -> Ok(SomeNo)
-*"causes":[{"id":"no-client-tap",*"of":"fault","of_line":null,"state":"fits","sure":false,*},{"id":"reply-missing",*"of":"fault","of_line":null,"state":"fits","sure":false,*}],"class":*"fault":"CLIENT",*"refused":[],"refuted":["two-taps"],"tail":*"#,
+*"causes":[{"id":"no-client-tap",*"of":"fault","of_line":null,"state":"fits","sure":false,*},{"id":"reply-missing",*"of":"fault","of_line":null,"state":"fits","sure":false,*}],"class":*"fault":"CLIENT",*"refused":[],"refuted":["two-taps","client-tap-has-no-packets"],"tail":*"#,
     r#"explain --json --pid p1
 1 1 m1@1 e:a t1
 -> Ok(SomeNo)
@@ -43,11 +43,11 @@ static FAULTS: [&str; 13] = [
     r#"explain --json --pid p1
 1 1 c1@1 e:a e:b double1 t1 t1
 -> Ok(SomeNo)
-*"causes":[{"id":"doubled-live",*"of":"fault","of_line":null,"state":"certain","sure":true,*}],"class":*"fault":"DOUBLED",*"refused":[],"refuted":["node-behind-break","sent-again-after-replay","stale-offset","body-came-twice","recovery-not-recorded"],"tail":*"#,
+*"causes":[{"id":"doubled-live",*"of":"fault","of_line":null,"state":"certain","sure":true,*}],"class":*"fault":"DOUBLED",*"refused":[],"refuted":["node-behind-break","sent-again-after-replay","replay-includes-offset","stale-offset","body-came-twice","doubled-in-replay","recovery-not-recorded"],"tail":*"#,
     r#"explain --json --pid p1
 1 1 c1@1 e:a e:b hold1 t1 t1
 -> Ok(SomeNo)
-*"causes":[{"id":"swapped-live",*"of":"fault","of_line":null,"state":"certain","sure":true,*}],"class":*"fault":"SWAPPED",*"refused":[],"refuted":["node-behind-break","recovery-not-recorded"],"tail":*"#,
+*"causes":[{"id":"swapped-live",*"of":"fault","of_line":null,"state":"certain","sure":true,*}],"class":*"fault":"SWAPPED",*"refused":[],"refuted":["node-behind-break","swapped-in-replay","recovery-not-recorded"],"tail":*"#,
     r#"explain --json --pid p1
 1 1 c1@1 j1:r e:a:r e:b drop1 t1 t1
 -> Ok(SomeNo)
@@ -167,7 +167,7 @@ c1 {"k":"conn","c":2}
 c1 {"k":"out","t":"40{\"pid\":\"P\"}"}
 c1 {"k":"in","t":"40{\"sid\":\"s2\",\"pid\":\"Q\"}"}
 -> Ok(SomeNo)
-*"causes":[{"id":"no-offset","lines":[13],"of":"refused","of_line":13,"state":"certain","sure":true,*}],"class":*"refuted":["node-not-tapped","missing-break","cleared-after-break","turn-not-stored","recovered-twice"],"tail":*"#,
+*"causes":[{"id":"no-offset","lines":[13],"of":"refused","of_line":13,"state":"certain","sure":true,*}],"class":*"refuted":["node-not-tapped","missing-break","cleared-after-break","turn-not-stored","recovered-twice","opened-twice"],"tail":*"#,
     // A session that is answered yes.
     r#"explain --json --pid P
 @YES

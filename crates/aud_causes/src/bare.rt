@@ -1,0 +1,84 @@
+//! A client's tap that may have a session's connection without its packets.
+ghost use Rattle.std.specs.Prelude.{◌≡◌, IfOk};
+ghost use Rattle.std.specs.Option.{option_copied};
+ghost use Rattle.aud_causes.specs.Bare.{bare_from, begins_bare, begins_connection, first_bare, is_bare, is_packet, tap_without_packets};
+
+use crate::cause::Cause;
+use crate::turns::turn_count;
+use aud_node::Logs;
+use aud_session_facts::turn_marks;
+use aud_tap::{ClientRec, Records, Tap};
+use std::alloc::{AllocError, Global};
+
+/// Where the session has one turn, and the first connection of a client's tap has no packet: the first such tap. It
+/// costs the session's own records, and two records of each tap.
+pub(crate) fn tap_without_packets(
+    alloc: Global,
+    logs: &Logs<'_>,
+    pid: &str,
+) -> Result<Option<Cause>, AllocError>
+    ensures { IfOk result (λ cause. cause ≡ tap_without_packets logs.now pid.now) }
+{
+    let marks = turn_marks(alloc, logs, pid)?;
+    if turn_count(&marks) != 1 {
+        return Ok(None);
+    }
+    Ok(first_bare(logs.taps()))
+}
+
+/// The first of these taps whose first connection has no packet.
+fn first_bare(taps: &[Tap]) -> Option<Cause>
+    ensures { result ≡ first_bare taps.now }
+{
+    let client = bare_from(taps)?;
+    Some(Cause::ClientTapHasNoPackets { client })
+}
+
+/// Its place.
+fn bare_from(taps: &[Tap]) -> Option<usize>
+    ensures { result ≡ bare_from 0 taps.now }
+{
+    for (place, tap) in taps.iter().enumerate() {
+        if is_bare(tap) {
+            return Some(place);
+        }
+    }
+    None
+}
+
+/// Whether the tap is a client's, and its first connection has no packet.
+fn is_bare(tap: &Tap) -> bool
+    ensures { result ≡ is_bare tap.now }
+{
+    match &tap.records {
+        Records::Client(recs) => begins_bare(recs.as_slice()),
+        _ => false,
+    }
+}
+
+fn begins_bare(recs: &[ClientRec]) -> bool
+    ensures { result ≡ begins_bare recs.now }
+{
+    begins_connection(recs.get(0)) && !is_packet(recs.get(1))
+}
+
+fn begins_connection(rec: Option<&ClientRec>) -> bool
+    ensures { result ≡ begins_connection (option_copied rec.entry) }
+{
+    match rec {
+        Some(ClientRec::Conn { .. }) => true,
+        _ => false,
+    }
+}
+
+/// Whether there is a record, and it is of packets.
+fn is_packet(rec: Option<&ClientRec>) -> bool
+    ensures { result ≡ is_packet (option_copied rec.entry) }
+{
+    match rec {
+        Some(ClientRec::Conn { .. }) => false,
+        Some(ClientRec::Lost) => false,
+        Some(_) => true,
+        None => false,
+    }
+}

@@ -1,0 +1,225 @@
+//! A change of a room that no log has: with it what came would be what was due.
+ghost use Rattle.std.specs.Prelude.{◌≡◌, ◌++◌, ◌∷◌, [], IfOk, OnOk};
+ghost use Rattle.std.specs.List.{filter};
+ghost use Rattle.aud_session_facts.specs.Opened.{opened_in};
+ghost use Rattle.aud_causes.specs.Changed.{fits_with, fits_with_any, greatest, is_as_due, is_of_other, is_within, namespace_in, spans_with, stretch_of, up_to};
+
+use crate::at_break::are_same;
+use crate::next_change::next_change;
+use aud_cert::Turn;
+use aud_node::{Logs, Stream};
+use aud_rooms::{Span, due_of};
+use aud_session_facts::opened_in;
+use aud_tap::Text;
+use std::alloc::{AllocError, Global};
+use std::borrow::CowStr;
+
+/// Positions from the first to the last.
+#[derive(Clone, Copy, Drop)]
+pub struct Stretch {
+    pub first: u64,
+    pub last: u64,
+}
+
+/// Whether it is so of one of these rooms that what came is what was due, where the session of these turns and spans
+/// joined it, or left it, just before it reached the position, and no log has that. It costs for each room the session's
+/// own records, and what is due from the position on.
+pub(crate) fn fits_with_any(
+    alloc: Global,
+    logs: &Logs<'_>,
+    pid: &str,
+    turns: &[Turn<'_>],
+    spans: &[Span<'_>],
+    came: &[u64],
+    joined: bool,
+    position: u64,
+    rooms: &[Text],
+) -> Result<bool, AllocError>
+    ensures { IfOk result (λ fits. fits ≡ fits_with_any logs.now pid.now turns.now spans.now
+        came.now joined position rooms.now) }
+{
+    for room in rooms {
+        if fits_with(
+            alloc,
+            logs,
+            pid,
+            turns,
+            spans,
+            came,
+            joined,
+            position,
+            room.as_str(),
+        )? {
+            return Ok(true);
+        }
+    }
+    Ok(false)
+}
+
+/// The same of this room.
+pub(crate) fn fits_with(
+    alloc: Global,
+    logs: &Logs<'_>,
+    pid: &str,
+    turns: &[Turn<'_>],
+    spans: &[Span<'_>],
+    came: &[u64],
+    joined: bool,
+    position: u64,
+    room: &str,
+) -> Result<bool, AllocError>
+    ensures { IfOk result (λ fits. fits ≡ fits_with logs.now pid.now turns.now spans.now
+        came.now joined position room.now) }
+{
+    let stretch = stretch_of(logs, pid, turns, came, room, position);
+    let changed = spans_with(alloc, spans, room, joined, stretch)?;
+    is_as_due(
+        alloc,
+        logs.stream(),
+        namespace_in(turns),
+        &changed,
+        stretch,
+        came,
+    )
+}
+
+/// Whether what came in the stretch, in the order in which it came, is what was due there by these spans.
+fn is_as_due(
+    alloc: Global,
+    stream: &Stream<'_>,
+    nsp: &str,
+    spans: &[Span<'_>],
+    stretch: Stretch,
+    came: &[u64],
+) -> Result<bool, AllocError>
+    ensures { IfOk result (λ is. is
+        ≡ is_as_due stream.now nsp.now spans.now stretch came.now) }
+{
+    let within = within(alloc, came, stretch)?;
+    let after = stretch.first.saturating_sub(1);
+    let due = due_of(alloc, spans, stream, nsp, after, stretch.last)?;
+    Ok(are_same(within.as_slice(), due.as_slice()))
+}
+
+/// From the position on, up to the next change of the room that a log has, or to the end of what came.
+fn stretch_of(
+    logs: &Logs<'_>,
+    pid: &str,
+    turns: &[Turn<'_>],
+    came: &[u64],
+    room: &str,
+    position: u64,
+) -> Stretch
+    ensures { result ≡ stretch_of logs.now pid.now turns.now came.now room.now position }
+{
+    Stretch {
+        first: position,
+        last: up_to(
+            greatest(came),
+            next_change(logs, pid, turns, room, position),
+        ),
+    }
+}
+
+/// The greatest of the positions; 0 where there are none.
+fn greatest(positions: &[u64]) -> u64
+    ensures { result ≡ greatest 0 positions.now }
+{
+    let mut last = 0;
+    for position in positions {
+        last = (*position).max(last);
+    }
+    last
+}
+
+fn up_to(last: u64, reached: Option<u64>) -> u64
+    ensures { result ≡ up_to last reached }
+{
+    match reached {
+        Some(reached) => reached.min(last),
+        None => last,
+    }
+}
+
+/// Those of the positions that the stretch has.
+fn within(alloc: Global, came: &[u64], stretch: Stretch) -> Result<Vec<u64>, AllocError>
+    ensures { IfOk result (λ within. within.items ≡ filter (is_within stretch) came.now) }
+{
+    let mut within = Vec::new(alloc);
+    for position in came {
+        if is_within(stretch, *position) {
+            within.push(*position)?;
+        }
+    }
+    Ok(within)
+}
+
+fn is_within(stretch: Stretch, position: u64) -> bool
+    ensures { result ≡ is_within stretch position }
+{
+    stretch.first <= position && position <= stretch.last
+}
+
+/// The rooms' spans, where the session holds this room over the stretch, if it `joined` it, or doesn't; they borrow the
+/// rooms.
+fn spans_with<'s>(
+    alloc: Global,
+    spans: &'s [Span<'_>],
+    room: &'s str,
+    joined: bool,
+    stretch: Stretch,
+) -> Result<Vec<Span<'s>>, AllocError>
+    ensures { IfOk result (λ changed. changed.items
+        ≡ spans_with spans.now room.now joined stretch) }
+{
+    let mut changed = others(alloc, spans, room)?;
+    if joined {
+        changed.push(Span {
+            room: CowStr::Borrowed(room),
+            first: stretch.first,
+            last: stretch.last,
+        })?;
+    }
+    Ok(changed)
+}
+
+/// The spans of other rooms than this one.
+fn others<'s>(alloc: Global, spans: &'s [Span<'_>], room: &str) -> Result<Vec<Span<'s>>, AllocError>
+    ensures { IfOk result (λ others. others.items ≡ filter (is_of_other room.now) spans.now) }
+{
+    let mut others = Vec::new(alloc);
+    for span in spans {
+        push_other(&mut others, span, room)?;
+    }
+    Ok(others)
+}
+
+/// Adds the span, if it is of another room.
+fn push_other<'s>(
+    others: &mut Vec<Span<'s>>,
+    span: &'s Span<'_>,
+    room: &str,
+) -> Result<(), AllocError>
+    ensures { OnOk result (others.new.items
+        ≡ others.old.items ++ filter (is_of_other room.now) (span.now ∷ [])) }
+{
+    let name = span.room.as_str();
+    if name != room {
+        others.push(Span {
+            room: CowStr::Borrowed(name),
+            first: span.first,
+            last: span.last,
+        })?;
+    }
+    Ok(())
+}
+
+/// The namespace in which the session of these turns was opened.
+fn namespace_in<'a>(turns: &[Turn<'a>]) -> &'a str
+    ensures { result.now ≡ namespace_in (opened_in turns.now) }
+{
+    match opened_in(turns) {
+        Some(opened) => opened.nsp,
+        None => "",
+    }
+}

@@ -1,0 +1,116 @@
+//! The next record by which a session changes a room, past a position.
+ghost use Rattle.std.specs.Prelude.{◌≡◌};
+ghost use Rattle.std.specs.Option.{option_copied};
+ghost use Rattle.aud_causes.specs.NextChange.{change_past, is_change, next_change, next_change_at, next_change_in, reached_past};
+
+use aud_cert::{Turn, turn_place};
+use aud_node::Logs;
+use aud_rooms::TurnPlace;
+use aud_tap::NodeRec;
+
+/// The last position that the session of these turns had reached when it next joined or left the room, from the
+/// position on; none where no record says so. It costs the session's own records.
+pub(crate) fn next_change(
+    logs: &Logs<'_>,
+    pid: &str,
+    turns: &[Turn<'_>],
+    room: &str,
+    position: u64,
+) -> Option<u64>
+    ensures { result ≡ next_change logs.now pid.now turns.now room.now position }
+{
+    let mut next = None;
+    let mut high = 0;
+    for turn in turns {
+        let place = turn_place(logs, turn);
+        next = next.or(next_change_in(logs, pid, room, position, high, &place));
+        high = turn.high.max(high);
+    }
+    next
+}
+
+/// The same by the session's own records in the turn, where it had reached this position in those before.
+fn next_change_in(
+    logs: &Logs<'_>,
+    pid: &str,
+    room: &str,
+    position: u64,
+    high: u64,
+    turn: &TurnPlace,
+) -> Option<u64>
+    ensures { result ≡ next_change_in logs.now pid.now room.now position high turn.now }
+{
+    let numbers = turn.own(logs, pid);
+    next_change_at(logs, turn.node, pid, room, position, high, numbers)
+}
+
+/// The same by the node's records with these numbers.
+fn next_change_at(
+    logs: &Logs<'_>,
+    node: usize,
+    pid: &str,
+    room: &str,
+    position: u64,
+    high: u64,
+    numbers: &[usize],
+) -> Option<u64>
+    ensures { result
+        ≡ next_change_at logs.now node pid.now room.now position high numbers.now }
+{
+    let mut next = None;
+    for number in numbers {
+        next = next.or(change_past(logs, node, pid, room, position, high, *number));
+    }
+    next
+}
+
+/// The same by the node's record with this number.
+fn change_past(
+    logs: &Logs<'_>,
+    node: usize,
+    pid: &str,
+    room: &str,
+    position: u64,
+    high: u64,
+    number: usize,
+) -> Option<u64>
+    ensures { result ≡ change_past logs.now node pid.now room.now position high number }
+{
+    let log = logs.node(node)?;
+    if !is_change(pid, room, log.recs().get(number)) {
+        return None;
+    }
+    let cursor = log.cursor_after(number)?;
+    reached_past(position, cursor.max(high))
+}
+
+/// What was reached, if that is the position or past it.
+fn reached_past(position: u64, reached: u64) -> Option<u64>
+    ensures { result ≡ reached_past position reached }
+{
+    if reached < position {
+        return None;
+    }
+    Some(reached)
+}
+
+/// Whether by the record the session joins or leaves the room.
+fn is_change(pid: &str, room: &str, rec: Option<&NodeRec>) -> bool
+    ensures { result ≡ is_change pid.now room.now (option_copied rec.entry) }
+{
+    match rec {
+        Some(
+            NodeRec::Join {
+                pid: other,
+                room: name,
+            },
+        ) => other.as_str() == pid && name.as_str() == room,
+        Some(
+            NodeRec::Leave {
+                pid: other,
+                room: name,
+            },
+        ) => other.as_str() == pid && name.as_str() == room,
+        _ => false,
+    }
+}
