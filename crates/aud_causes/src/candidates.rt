@@ -44,8 +44,8 @@ static ORPHAN: [&str; 6] = [
 static CONTENT: [&str; 4] = [
     "another-encoder",
     "attachments-reordered",
-    "another-event",
     "altered",
+    "another-event",
 ];
 
 static EXTRA: [&str; 10] = [

@@ -41,8 +41,8 @@ module _ (off : Text) where
       let of_other = of_if in_content (is_altered frame event) other refl in
       of_held in_content
       (cause_if (is_by_another_encoder frame event) encoder ∷ cause_if (is_reordered frame event) reordered
-      ∷ cause_if (is_another_event frame event) another ∷ cause_if (is_altered frame event) other ∷ [])
-      (of_encoder, (of_reordered, (of_another, (of_other, tt))))
+      ∷ cause_if (is_altered frame event) other ∷ cause_if (is_another_event frame event) another ∷ [])
+      (of_encoder, (of_reordered, (of_other, (of_another, tt))))
 
   pub content_listed : (frame : Option FrameSeen) (entry : Option StreamRec) (altered : AlteredFrame) → list_all in_content (causes_against frame entry altered) ≡ true
   content_listed (Some frame) (Some (Ev event)) altered = event_listed frame event altered

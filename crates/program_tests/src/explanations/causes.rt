@@ -35,7 +35,7 @@ static FAULTS: [&str; 13] = [
     r#"explain --json --pid p1
 1 1 c1@1 e:hi alter1 t1
 -> Ok(SomeNo)
-*"causes":[{"id":"another-event",*"of":"fault","of_line":null,"state":"fits","sure":false,*},{"id":"altered",*"of":"fault","of_line":null,"state":"fits","sure":false,*}],"class":*"fault":"CONTENT",*"refused":[],"refuted":["another-encoder","attachments-reordered"],"tail":*"#,
+*"causes":[{"id":"altered",*"of":"fault","of_line":null,"state":"fits","sure":false,*},{"id":"another-event",*"of":"fault","of_line":null,"state":"fits","sure":false,*}],"class":*"fault":"CONTENT",*"refused":[],"refuted":["another-encoder","attachments-reordered"],"tail":*"#,
     r#"explain --json --pid p1
 1 1 c1@1 lose j1:r e:a:r t1
 -> Ok(SomeNo)

@@ -167,12 +167,12 @@ client c1, namespace /, connection 1, turns 1, got 1, due 1
       10 c1   conn 1 got 1 1-0  <- not as the entry has it
     turn 0  n1  5 open, cursor 0 == take 1 == 9 log ends, cursor 1
     client  7 reply  10 got 1
-cause another-event (fits, line 10): The event has another name, namespace or number of arguments
-        than its entry.
-do: let no event but those of the stream end in a text that is an offset.
 cause altered (fits, line 10): The event's text parts from its entry's at byte 6. It has
         2["hix","1-0"], and the entry has 2["hi","1-0"] there.
 do: look at what stands between the node and the client.
+cause another-event (fits, line 10): The event has another name, namespace or number of arguments
+        than its entry.
+do: let no event but those of the stream end in a text that is an offset.
 
 sessions: *"#,
     // The `join` of the entry's room is lost. 5 open, 6 conn, 7 reply, 8 entry 1, 9 take, 10 the frame.
