@@ -25,7 +25,7 @@ use Rattle.aud_causes.specs.Chain.{chain_causes}
 use Rattle.aud_causes.specs.Cleared.{broke_by, cleared_after_break, cleared_at, cleared_by, cleared_in, cleared_on, first_cleared, place_on}
 use Rattle.aud_causes.specs.Logs.{first_cause, later_cause, order_cause, record_cause, recoveries, take_cause, taken_again, takes_cause, unknown}
 use Rattle.aud_causes.specs.Names.{client_causes, reply_missing, unnamed_from}
-use Rattle.aud_causes.specs.Recorded.{first_own, is_node, no_log_causes, open_missing, opened_by, order_causes}
+use Rattle.aud_causes.specs.Recorded.{first_own, has_first_turn, is_node, no_log_causes, open_not_recorded, opener_not_tapped, order_causes}
 use Rattle.aud_causes.specs.Turns.{begins_of, breaks_of, ends_of, is_untapped, missing_break, missing_breaks, missing_by, missing_causes, not_tapped, recovery_after, unbroken_at}
 use Rattle.aud_causes.specs.Differences.{cause_and}
 use Rattle.aud_causes.specs.Twice.{causes_of_twice, is_as_often, is_so, recovered_twice, turn_not_stored, twice_at, twice_causes}
@@ -37,13 +37,14 @@ use Rattle.aud_causes.proofs.Listed.Each.{OfSome, is_listed, of_and, of_both, of
 abbrev in_no_log : Cause → Bool
 in_no_log = is_listed fault.NoLog
 
-opened_listed : (c : Cluster) (first : Option RecordPlace) → list_all in_no_log (opened_by c first) ≡ true
-opened_listed c (Some first) = refl
-opened_listed c None =
-    of_held in_no_log (open_missing c ∷ Some (NodeNotTapped 0) ∷ []) (of_if in_no_log (list_any is_node c.taps) OpenMissing refl, (refl, tt))
+open_listed : (c : Cluster) (first : Option RecordPlace) → OfSome in_no_log (open_not_recorded c first)
+open_listed c (Some first) = refl
+open_listed c None = of_if in_no_log (list_any is_node c.taps) OpenMissing refl
 
 pub no_log_listed : (c : Cluster) (pid : Text) → list_all in_no_log (no_log_causes c pid) ≡ true
-no_log_listed c pid = opened_listed c (first_own c pid)
+no_log_listed c pid =
+    of_held in_no_log (open_not_recorded c (first_own c pid) ∷ opener_not_tapped c pid ∷ [])
+    (open_listed c (first_own c pid), (of_if in_no_log (not (has_first_turn c pid (own_places c pid))) (NodeNotTapped 0) refl, tt))
 
 -- ---- CHAIN
 
