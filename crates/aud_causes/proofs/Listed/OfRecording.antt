@@ -118,9 +118,9 @@ chain_listed c pid marks stays =
     (of_both in_chain missing cleared
     (missing_listed (begins_of marks) (breaks_of marks) (ends_of marks) (recoveries stays))
     (cleared_listed c pid (own_places c pid)))
-    (of_each in_chain (λ m. causes_of_twice (ends_of marks) as_often (twice_at (begins_of marks) m))
-    (λ m. twice_listed (ends_of marks) as_often (twice_at (begins_of marks) m))
-    marks)
+    (of_each in_chain (λ number. causes_of_twice (ends_of marks) as_often (twice_at (begins_of marks) marks number))
+    (λ number. twice_listed (ends_of marks) as_often (twice_at (begins_of marks) marks number))
+    (numbers_from 0 (length marks)))
 
 -- ---- ORDER
 
