@@ -23,8 +23,8 @@ candidates fault.Client = codes "two-taps" ∷ codes "no-client-tap" ∷ codes "
 candidates fault.Names = codes "sid-differs" ∷ codes "namespace-differs" ∷ []
 candidates fault.Frame = codes "not-a-packet" ∷ []
 candidates fault.Orphan =
-    codes "cut-before-reply" ∷ codes "tap-began-late" ∷ codes "after-disconnect" ∷ codes "out-after-answer"
-    ∷ codes "second-connect" ∷ codes "reply-without-pid" ∷ []
+    codes "cut-before-reply" ∷ codes "tap-began-late" ∷ codes "reply-missing" ∷ codes "after-disconnect"
+    ∷ codes "out-after-answer" ∷ codes "second-connect" ∷ codes "reply-without-pid" ∷ []
 candidates (fault.Content off) = codes "another-encoder" ∷ codes "attachments-reordered" ∷ codes "altered" ∷ codes "another-event" ∷ []
 candidates (fault.Extra off) =
     codes "node-behind-break" ∷ codes "rooms-at-break" ∷ codes "offset-of-another-session" ∷ codes "log-ended-early" ∷ codes "late-leave"

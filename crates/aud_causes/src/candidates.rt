@@ -32,9 +32,10 @@ static NAMES: [&str; 2] = ["sid-differs", "namespace-differs"];
 
 static FRAME: [&str; 1] = ["not-a-packet"];
 
-static ORPHAN: [&str; 6] = [
+static ORPHAN: [&str; 7] = [
     "cut-before-reply",
     "tap-began-late",
+    "reply-missing",
     "after-disconnect",
     "out-after-answer",
     "second-connect",

@@ -31,7 +31,7 @@ static FAULTS: [&str; 13] = [
     r#"explain --json --pid p2
 1 1 u1@1 e:a t1 f1 c1@1 e:b t1
 -> Ok(SomeNo)
-*"causes":[{"id":"tap-began-late",*"of":"fault","of_line":null,"state":"certain","sure":true,*}],"class":*"fault":"ORPHAN",*"refused":[],"refuted":["cut-before-reply","after-disconnect","out-after-answer","second-connect","reply-without-pid"],"tail":*"#,
+*"causes":[{"id":"tap-began-late",*"of":"fault","of_line":null,"state":"certain","sure":true,*}],"class":*"fault":"ORPHAN",*"refused":[],"refuted":["cut-before-reply","reply-missing","after-disconnect","out-after-answer","second-connect","reply-without-pid"],"tail":*"#,
     r#"explain --json --pid p1
 1 1 c1@1 e:hi alter1 t1
 -> Ok(SomeNo)
