@@ -14,7 +14,7 @@ use Rattle.aud_causes.specs.declared.found.CauseFound.{CauseFound}
 abbrev pub candidates : Fault → List Text
 candidates fault.NoLog = codes "open-not-recorded" ∷ codes "node-not-tapped" ∷ []
 candidates fault.Chain =
-    codes "node-not-tapped" ∷ codes "missing-break" ∷ codes "cleared-after-break"
+    codes "node-not-tapped" ∷ codes "missing-back" ∷ codes "missing-break" ∷ codes "cleared-after-break"
     ∷ codes "turn-not-stored" ∷ codes "recovered-twice" ∷ []
 candidates fault.Order =
     codes "no-start" ∷ codes "restarted-in-old-log" ∷ codes "entries-skipped-by-node"

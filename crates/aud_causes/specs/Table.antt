@@ -12,7 +12,7 @@ use Rattle.aud_causes.specs.declared.record_at.Records.TheVariants.{Nothing, One
 use Rattle.aud_causes.specs.declared.table.Row.{Row}
 use Rattle.aud_causes.specs.NoPacket.{advice, no_packet_figures, no_packet_words}
 use Rattle.aud_causes.specs.declared.cause.Cause.{Cause}
-use Rattle.aud_causes.specs.declared.cause.Cause.TheVariants.{NodeBehindBreak, SentAgainAfterReplay, StaleOffset, BodyCameTwice, EqualBodies, OffsetOfAnotherSession, FrameNotRecorded, UnknownOffset, NoOffset, RoomsAtBreak, SkippedInWindow, LostLive, DoubledLive, SwappedLive, AnotherEncoder, AttachmentsReordered, AnotherEvent, Altered, LogEndedEarly, LateLeave, BeforeBirth, ExtraLive, JoinMissing, LeaveMissing, RecoveryNotRecorded, MissingBreak, ClearedAfterBreak, TurnNotStored, RecoveredTwice, OpenNotRecorded, OpenMissing, NodeNotTapped, NoStart, RestartedInOldLog, EntriesSkippedByNode, EntryTakenAgain, NotInStream, TwoTaps, NoClientTap, ReplyMissing, SidDiffers, NamespaceDiffers, NotAPacket, TapBeganLate, CutBeforeReply, ReplyWithoutPid, OutAfterAnswer, SecondConnect, AfterDisconnect, SessionOver, NodeEndedInTurn, NeverBroken, AskedTooEarly}
+use Rattle.aud_causes.specs.declared.cause.Cause.TheVariants.{NodeBehindBreak, SentAgainAfterReplay, StaleOffset, BodyCameTwice, EqualBodies, OffsetOfAnotherSession, FrameNotRecorded, UnknownOffset, NoOffset, RoomsAtBreak, SkippedInWindow, LostLive, DoubledLive, SwappedLive, AnotherEncoder, AttachmentsReordered, AnotherEvent, Altered, LogEndedEarly, LateLeave, BeforeBirth, ExtraLive, JoinMissing, LeaveMissing, RecoveryNotRecorded, MissingBreak, MissingBack, ClearedAfterBreak, TurnNotStored, RecoveredTwice, OpenNotRecorded, OpenMissing, NodeNotTapped, NoStart, RestartedInOldLog, EntriesSkippedByNode, EntryTakenAgain, NotInStream, TwoTaps, NoClientTap, ReplyMissing, SidDiffers, NamespaceDiffers, NotAPacket, TapBeganLate, CutBeforeReply, ReplyWithoutPid, OutAfterAnswer, SecondConnect, AfterDisconnect, SessionOver, NodeEndedInTurn, NeverBroken, AskedTooEarly}
 
 -- what is said of a cause: its name, for scripts; the records that show it; what happened, in words, where in the place of
 -- each `#` stands the next of the figures; and what to do
@@ -134,6 +134,9 @@ row_of (MissingBreak turn begin back (Some stay)) = row (codes "missing-break") 
 row_of (MissingBreak turn begin back None) = row (codes "missing-break") (Node begin ∷ Node back ∷ [])
     (codes "The next turn begins, so turn # broke; no log has its break.") (Number turn ∷ [])
     (codes "write a node's log unbuffered; look at the disk and at how logs are rotated.")
+row_of (MissingBack turn next) = row (codes "missing-back") (Node next ∷ [])
+    (codes "The session had turn #, by its `break` or a later turn; no log has its `back`.") (Number turn ∷ [])
+    (codes "write a node's log from its start, unbuffered; look at whether one ended early, or lost lines.")
 row_of (ClearedAfterBreak broke cleared) = row (codes "cleared-after-break") (Node broke ∷ Node cleared ∷ [])
     (codes "The log of # clears the session up after its break, by a `leave` or its `gone`.") (Name cleared.node ∷ [])
     (codes "write no `leave` and no `gone` for what is cleared up after a break.")

@@ -10,8 +10,9 @@ use std::alloc::{AllocError, Global};
 
 static NOLOG: [&str; 2] = ["open-not-recorded", "node-not-tapped"];
 
-static CHAIN: [&str; 5] = [
+static CHAIN: [&str; 6] = [
     "node-not-tapped",
+    "missing-back",
     "missing-break",
     "cleared-after-break",
     "turn-not-stored",

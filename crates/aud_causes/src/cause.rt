@@ -139,6 +139,11 @@ pub enum Cause {
         back: RecordPlace,
         stay: Option<usize>,
     },
+    /// No log has the begin of this turn, though a log has its `break`, or a later turn; this record says so.
+    MissingBack {
+        turn: usize,
+        next: RecordPlace,
+    },
     /// The session left a room, or was over, after its break in the same log.
     ClearedAfterBreak {
         broke: RecordPlace,

@@ -240,6 +240,13 @@ pub(crate) fn row_of(cause: Cause) -> Row
             figures: [Some(Number(turn as u64)), None, None],
             todo: "write a node's log unbuffered; look at the disk and at how logs are rotated.",
         },
+        Cause::MissingBack { turn, next } => Row {
+            id: "missing-back",
+            records: One(Node(next)),
+            why: "The session had turn #, by its `break` or a later turn; no log has its `back`.",
+            figures: [Some(Number(turn as u64)), None, None],
+            todo: "write a node's log from its start, unbuffered; look at whether one ended early, or lost lines.",
+        },
         Cause::ClearedAfterBreak { broke, cleared } => Row {
             id: "cleared-after-break",
             records: Two(Node(broke), Node(cleared)),

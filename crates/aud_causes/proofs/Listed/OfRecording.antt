@@ -1,5 +1,5 @@
 -- The causes of a fault for which a session has no certificate have names of that fault's list.
-use Rattle.std.proofs.Common.{◌≡◌, ℕ, suc, zero, Bool, true, List, [], ◌∷◌, Option, Some, None, ◌++◌, ◌||◌, length, nat_eq, nat_le, nat_lt, not, refl, slice_get}
+use Rattle.std.proofs.Common.{◌≡◌, ℕ, suc, zero, Bool, true, List, [], ◌∷◌, Option, Some, None, ◌++◌, ◌-◌, ◌||◌, length, nat_eq, nat_le, nat_lt, not, refl, slice_get}
 use Rattle.std.specs.Prelude.{option_to_list}
 use Rattle.std.specs.List.{list_all, list_any}
 use Rattle.aud_base.specs.Lists.{numbers_from}
@@ -18,7 +18,7 @@ use Rattle.aud_cert.specs.declared.fault.Fault.TheVariants as fault
 use Rattle.aud_session_facts.specs.declared.marks.TurnMark.{TurnMark}
 use Rattle.aud_session_facts.specs.declared.place.RecordPlace.{RecordPlace}
 use Rattle.aud_causes.specs.declared.cause.Cause.{Cause}
-use Rattle.aud_causes.specs.declared.cause.Cause.TheVariants.{EntriesSkippedByNode, EntryTakenAgain, MissingBreak, NoClientTap, NodeNotTapped, OpenMissing, RecoveredTwice, ReplyMissing, TurnNotStored}
+use Rattle.aud_causes.specs.declared.cause.Cause.TheVariants.{EntriesSkippedByNode, EntryTakenAgain, MissingBack, MissingBreak, NoClientTap, NodeNotTapped, OpenMissing, RecoveredTwice, ReplyMissing, TurnNotStored}
 use Rattle.aud_causes.specs.declared.turns.Unbroken.{Unbroken}
 use Rattle.aud_causes.specs.declared.twice.Twice.{Twice}
 use Rattle.aud_causes.specs.Chain.{chain_causes}
@@ -26,7 +26,7 @@ use Rattle.aud_causes.specs.Cleared.{broke_by, cleared_after_break, cleared_at, 
 use Rattle.aud_causes.specs.Logs.{first_cause, later_cause, order_cause, record_cause, recoveries, take_cause, taken_again, takes_cause, unknown}
 use Rattle.aud_causes.specs.Names.{client_causes, reply_missing, unnamed_from}
 use Rattle.aud_causes.specs.Recorded.{first_own, has_first_turn, is_node, no_log_causes, open_not_recorded, opener_not_tapped, order_causes}
-use Rattle.aud_causes.specs.Turns.{begins_of, breaks_of, ends_of, is_untapped, missing_break, missing_breaks, missing_by, missing_causes, not_tapped, recovery_after, unbroken_at}
+use Rattle.aud_causes.specs.Turns.{after_begin, begins_of, breaks_of, ends_of, is_broken, is_untapped, missing_back, missing_break, missing_breaks, missing_by, missing_causes, not_tapped, recovery_after, unbegun, unbroken_at}
 use Rattle.aud_causes.specs.Differences.{cause_and}
 use Rattle.aud_causes.specs.Twice.{causes_of_twice, is_as_often, is_so, recovered_twice, turn_not_stored, twice_at, twice_causes}
 use Rattle.aud_causes.proofs.Listed.Each.{OfSome, is_listed, of_and, of_both, of_choice, of_each, of_held, of_if, of_list, of_map, of_or, of_then}
@@ -62,18 +62,22 @@ missing_break_listed : (turn : ℕ) (begin back : RecordPlace) (stay : Option �
 missing_break_listed turn begin back (Some stay) = refl
 missing_break_listed turn begin back None = refl
 
-missing_listed : (begins : List (Option RecordPlace)) (broken ended : List Bool) (came : List ℕ)
-    → list_all in_chain (missing_causes begins broken ended came) ≡ true
-missing_listed begins broken ended came =
-    of_both in_chain (option_to_list (not_tapped broken 0 begins)) (missing_breaks begins broken ended came)
+missing_listed : (marks : List TurnMark) (begins : List (Option RecordPlace)) (broken ended : List Bool) (came : List ℕ)
+    → list_all in_chain (missing_causes marks begins broken ended came) ≡ true
+missing_listed marks begins broken ended came =
+    let turn = unbegun 0 begins in
+    let back = option_to_list (missing_back marks begins) in
+    of_both in_chain (option_to_list (not_tapped broken 0 begins)) (back ++ missing_breaks begins broken ended came)
     (of_list in_chain (not_tapped broken 0 begins) (not_tapped_listed broken 0 begins))
+    (of_both in_chain back (missing_breaks begins broken ended came)
+    (of_list in_chain (missing_back marks begins) (of_map in_chain (MissingBack turn) (λ next. refl) (after_begin turn (is_broken marks (turn - 1)) marks)))
     (of_each in_chain (λ turn. option_to_list (missing_break begins broken ended came turn))
     (λ turn.
     of_list in_chain (missing_break begins broken ended came turn)
     (of_map in_chain (missing_by (length begins) came)
     (λ (u : Unbroken). missing_break_listed u.turn u.begin u.back (recovery_after (length begins) came u.turn))
     (unbroken_at begins broken ended turn)))
-    (numbers_from 0 (length begins)))
+    (numbers_from 0 (length begins))))
 
 cleared_by_listed : (broke place : RecordPlace) (r : Option NodeRec) → OfSome in_chain (cleared_by broke place r)
 cleared_by_listed broke place (Some (rec.Leave pid room)) = refl
@@ -112,11 +116,11 @@ pub chain_listed : (c : Cluster) (pid : Text) (marks : List TurnMark) (stays : L
 chain_listed c pid marks stays =
     let as_often = is_as_often marks (recoveries stays) in
     let twice = twice_causes (begins_of marks) (ends_of marks) as_often marks in
-    let missing = missing_causes (begins_of marks) (breaks_of marks) (ends_of marks) (recoveries stays) in
+    let missing = missing_causes marks (begins_of marks) (breaks_of marks) (ends_of marks) (recoveries stays) in
     let cleared = cleared_after_break c pid in
     of_both in_chain (missing ++ cleared) twice
     (of_both in_chain missing cleared
-    (missing_listed (begins_of marks) (breaks_of marks) (ends_of marks) (recoveries stays))
+    (missing_listed marks (begins_of marks) (breaks_of marks) (ends_of marks) (recoveries stays))
     (cleared_listed c pid (own_places c pid)))
     (of_each in_chain (λ number. causes_of_twice (ends_of marks) as_often (twice_at (begins_of marks) marks number))
     (λ number. twice_listed (ends_of marks) as_often (twice_at (begins_of marks) marks number))

@@ -15,7 +15,7 @@ cause_names =
     ∷ codes "swapped-live" ∷ codes "another-encoder" ∷ codes "attachments-reordered" ∷ codes "another-event"
     ∷ codes "altered" ∷ codes "log-ended-early" ∷ codes "late-leave" ∷ codes "before-birth"
     ∷ codes "extra-live" ∷ codes "join-missing" ∷ codes "leave-missing" ∷ codes "recovery-not-recorded"
-    ∷ codes "missing-break" ∷ codes "cleared-after-break" ∷ codes "turn-not-stored" ∷ codes "recovered-twice"
+    ∷ codes "missing-break" ∷ codes "missing-back" ∷ codes "cleared-after-break" ∷ codes "turn-not-stored" ∷ codes "recovered-twice"
     ∷ codes "node-not-tapped" ∷ codes "open-not-recorded" ∷ codes "no-start" ∷ codes "restarted-in-old-log"
     ∷ codes "entries-skipped-by-node" ∷ codes "entry-taken-again" ∷ codes "not-in-stream" ∷ codes "two-taps"
     ∷ codes "no-client-tap" ∷ codes "reply-missing" ∷ codes "sid-differs" ∷ codes "namespace-differs"

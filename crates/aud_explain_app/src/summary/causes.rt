@@ -13,7 +13,7 @@ pub struct CausesTold {
     pub others: usize,
 }
 
-static NAMES: [&str; 51] = [
+static NAMES: [&str; 52] = [
     "node-behind-break",
     "sent-again-after-replay",
     "rooms-at-break",
@@ -39,6 +39,7 @@ static NAMES: [&str; 51] = [
     "leave-missing",
     "recovery-not-recorded",
     "missing-break",
+    "missing-back",
     "cleared-after-break",
     "turn-not-stored",
     "recovered-twice",
