@@ -60,7 +60,7 @@ pub enum Cause {
         after: u64,
         low: u64,
     },
-    /// The entry is one of those to be replayed, and was left out.
+    /// The entry is one of those to be replayed, and no frame of it came.
     SkippedInWindow {
         stay: usize,
         after: u64,

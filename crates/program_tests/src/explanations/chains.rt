@@ -89,13 +89,14 @@ client c1, namespace /, turns 2, delivery not judged
     client  16 reply  17 got 1  18 lost  20 asks after 1  21 got 2  22 reply
 cause missing-break (certain, lines 6 13 20 22): The client recovered the session after turn 0, so
         that turn broke; no log has its break.
-do: write a node's log unbuffered; look at the disk and at how logs are rotated.
+do: write a node's log unbuffered; see whether it ended there, or the node was restarted; look at
+        the disk and at how logs are rotated.
 
 sessions: *"#,
     r#"explain --json
 @NO_BREAK
 -> Ok(SomeNo)
-{"alike":[],"also":[],"also_left":0,"at_frame":null,"causes":[{"id":"missing-break","lines":[6,13,20,22],"of":"fault","of_line":null,"state":"certain","sure":true,"todo":"write a node's log unbuffered; look at the disk and at how logs are rotated.","why":"The client recovered the session after turn 0, so that turn broke; no log has its break."}],"class":"recording","client":"c1","conn":null,"due":null,"events":[{"after":null,"from":null,"happens":"reply","lines":[16,16],"to":null},{"after":null,"from":1,"happens":"got","lines":[17,17],"to":1},{"after":null,"from":null,"happens":"lost","lines":[18,18],"to":null},{"after":1,"from":null,"happens":"asks","lines":[20,20],"to":null},{"after":null,"from":2,"happens":"got","lines":[21,21],"to":2},{"after":null,"from":null,"happens":"reply","lines":[22,22],"to":null}],"events_left":0,"evidence":[{"file":null,"file_line":null,"line":6,"of":null,"role":"earlier","says":"open, sid s1, namespace /, cursor 0","tap":"a"},{"file":null,"file_line":null,"line":13,"of":null,"role":"fault","says":"back 1, cursor 2","tap":"b"}],"fault":"CHAIN","got":null,"nsp":"/","off":null,"pid":"P","refused":[],"refuted":["node-not-tapped","missing-back","cleared-after-break","turn-not-stored","recovered-twice"],"tail":null,"turns":[{"begin":"open","end":"missing","high":null,"lines":[6],"low":0,"node":"a","took":null,"turn":0},{"begin":"back","end":"log","high":2,"lines":[13,13],"low":2,"node":"b","took":null,"turn":1}],"turns_left":0,"v":1,"verdict":"no"}
+{"alike":[],"also":[],"also_left":0,"at_frame":null,"causes":[{"id":"missing-break","lines":[6,13,20,22],"of":"fault","of_line":null,"state":"certain","sure":true,"todo":"write a node's log unbuffered; see whether it ended there, or the node was restarted; look at the disk and at how logs are rotated.","why":"The client recovered the session after turn 0, so that turn broke; no log has its break."}],"class":"recording","client":"c1","conn":null,"due":null,"events":[{"after":null,"from":null,"happens":"reply","lines":[16,16],"to":null},{"after":null,"from":1,"happens":"got","lines":[17,17],"to":1},{"after":null,"from":null,"happens":"lost","lines":[18,18],"to":null},{"after":1,"from":null,"happens":"asks","lines":[20,20],"to":null},{"after":null,"from":2,"happens":"got","lines":[21,21],"to":2},{"after":null,"from":null,"happens":"reply","lines":[22,22],"to":null}],"events_left":0,"evidence":[{"file":null,"file_line":null,"line":6,"of":null,"role":"earlier","says":"open, sid s1, namespace /, cursor 0","tap":"a"},{"file":null,"file_line":null,"line":13,"of":null,"role":"fault","says":"back 1, cursor 2","tap":"b"}],"fault":"CHAIN","got":null,"nsp":"/","off":null,"pid":"P","refused":[],"refuted":["node-not-tapped","missing-back","cleared-after-break","turn-not-stored","recovered-twice"],"tail":null,"turns":[{"begin":"open","end":"missing","high":null,"lines":[6],"low":0,"node":"a","took":null,"turn":0},{"begin":"back","end":"log","high":2,"lines":[13,13],"low":2,"node":"b","took":null,"turn":1}],"turns_left":0,"v":1,"verdict":"no"}
 {"summary":*"#,
     r#"explain
 @NO_SECOND_BREAK
@@ -140,7 +141,8 @@ cause missing-back (fits, line 24): The session had turn 2, by its `break` or a 
 do: write a node's log from its start, unbuffered; look at whether one ended early, or lost lines.
 cause missing-break (holds, lines 6 13): The next turn begins, so turn 0 broke; no log has its
         break.
-do: write a node's log unbuffered; look at the disk and at how logs are rotated.
+do: write a node's log unbuffered; see whether it ended there, or the node was restarted; look at
+        the disk and at how logs are rotated.
 
 sessions: *"#,
     // Neither of its first two turns has a `break`.
@@ -165,10 +167,12 @@ client c1, namespace /, turns 3, delivery not judged
         27 reply
 cause missing-break (holds, lines 6 13 20 22): The client recovered the session after turn 0, so
         that turn broke; no log has its break.
-do: write a node's log unbuffered; look at the disk and at how logs are rotated.
+do: write a node's log unbuffered; see whether it ended there, or the node was restarted; look at
+        the disk and at how logs are rotated.
 cause missing-break (holds, lines 13 24 26 27): The client recovered the session after turn 1, so
         that turn broke; no log has its break.
-do: write a node's log unbuffered; look at the disk and at how logs are rotated.
+do: write a node's log unbuffered; see whether it ended there, or the node was restarted; look at
+        the disk and at how logs are rotated.
 
 sessions: 1, yes: 0, no: 1
   recording 1: CHAIN 1

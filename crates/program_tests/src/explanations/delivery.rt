@@ -234,8 +234,9 @@ cause rooms-at-break (fits, lines 35 37): Of the entries after 1 up to 3, exactl
         are for the rooms held at the break.
 do: join again after a recovery, or accept it: public adapters replay by the rooms at the break.
 cause skipped-in-window (fits, lines 35 37): The entry is one of those to be sent again, after 1 up
-        to 3, and was left out.
-do: look at how the node reads the stream for the replay.
+        to 3, and no frame of it came.
+do: look at how the node reads the stream for the replay, and at what stands between it and the
+        client.
 
 sessions: *"#,
     r#"explain
@@ -252,8 +253,9 @@ client c1, namespace /, connection 2, turns 2, got 2, due 3, differs at frame 2
     turn 1  b  16 back, cursor 3 == 16 log ends, cursor 3
     client  19 reply  20 got 1  21 lost  23 asks after 1  24 got 3  25 reply
 cause skipped-in-window (certain, lines 23 25): The entry is one of those to be sent again, after 1
-        up to 3, and was left out.
-do: look at how the node reads the stream for the replay.
+        up to 3, and no frame of it came.
+do: look at how the node reads the stream for the replay, and at what stands between it and the
+        client.
 
 sessions: *"#,
     // Which stay is of the third turn isn't known, so neither is what had to be sent again in it.
@@ -312,9 +314,10 @@ client c1, namespace /, connection 1, turns 1, got 1, due 1, differs at frame 1
       12 c1   conn 1 got 1 1-0  <- not due
     turn 0  a  6 open, cursor 1 == take 2 == 8 log ends, cursor 2
     client  11 reply  12 got 1
-cause before-birth (certain, line 6): a had taken the entry when it opened the session, with its
-        cursor at 1.
-do: send a session nothing that the node took before it opened the session.
+cause before-birth (certain, line 6): By its log a had taken the entry when it opened the session,
+        with its cursor at 1.
+do: send a session nothing that the node took before its `open`; see whether that, and `start`, are
+        written in time.
 
 sessions: *"#,
     r#"explain

@@ -37,7 +37,8 @@ client c1, namespace /, turns 2, delivery not judged
     client  9 reply  12 got 1  13 lost  16 asks after 1  18 reply
 cause missing-break (certain, lines 7 17 16 18): The client recovered the session after turn 0, so
         that turn broke; no log has its break.
-do: write a node's log unbuffered; look at the disk and at how logs are rotated.
+do: write a node's log unbuffered; see whether it ended there, or the node was restarted; look at
+        the disk and at how logs are rotated.
 
 sessions: *"#,
     // The `take` is written twice. 5 open, 6 conn, 7 reply, 8 entry 1, 9 and 10 take, 11 the frame.
