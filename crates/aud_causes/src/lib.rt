@@ -42,6 +42,7 @@ mod lines;
 mod list;
 mod live;
 mod logs;
+mod named_entries;
 mod names;
 mod no_packet;
 mod orphans;
