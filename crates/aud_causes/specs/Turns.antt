@@ -1,6 +1,6 @@
 -- The turns of a session that have no begin or no break. Both are looked for in all turns, up to the last that a record
 -- begins.
-use Rattle.std.specs.Prelude.{ℕ, suc, ◌-◌, Bool, true, false, ◌&&◌, ◌++◌, List, [], ◌∷◌, flat_map, length, map, Option, Some, None, option_to_list, nat_eq, nat_lt, if◌then◌else◌, slice_get}
+use Rattle.std.specs.Prelude.{ℕ, suc, ◌-◌, Bool, true, false, ◌&&◌, ◌||◌, ◌++◌, List, [], ◌∷◌, flat_map, length, map, Option, Some, None, option_to_list, nat_eq, nat_lt, if◌then◌else◌, slice_get}
 use Rattle.std.specs.List.{find, list_any}
 use Rattle.std.specs.Option.{option_map}
 use Rattle.aud_base.specs.Lists.{numbers_from}
@@ -107,7 +107,7 @@ is_past_turn turn (Some other) = nat_lt turn other
 -- the record says that the session had this turn: it begins a later one; or it breaks this one, where one breaks the turn
 -- before
 abbrev pub is_after_begin : ℕ → Bool → Mark → Bool
-is_after_begin turn broken m = is_past_turn turn (begun_turn m) || broken && is_turn turn (broken_turn m)
+is_after_begin turn broken m = is_past_turn turn (begun_turn m) || (broken && is_turn turn (broken_turn m))
 
 -- the first of these records that does
 abbrev pub after_begin : ℕ → Bool → List TurnMark → Option RecordPlace

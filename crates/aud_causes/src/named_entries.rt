@@ -3,7 +3,7 @@ ghost use Rattle.std.specs.Prelude.{◌≡◌, ◌||◌};
 ghost use Rattle.std.specs.Option.{option_copied};
 ghost use Rattle.aud_causes.specs.NamedEntries.{is_in_log, is_named, is_named_at, names_entry};
 
-use aud_node::{Logs, NodeLog, Recs};
+use aud_node::{Logs, NodeLog};
 use aud_tap::NodeRec;
 
 /// Whether a node's log that is out of order takes the entry of this offset, or starts after it. It costs the records of
@@ -23,15 +23,16 @@ fn is_named_at(logs: &Logs<'_>, off: &str, place: usize) -> bool
     ensures { result ≡ is_named_at logs.now off.now place }
 {
     match logs.node(place) {
-        Some(log) => !log.ordered() && is_in_log(log.recs(), off),
+        Some(log) => !log.ordered() && is_in_log(log, off),
         None => false,
     }
 }
 
-/// Whether one of these records names the entry.
-fn is_in_log(recs: Recs<'_>, off: &str) -> bool
-    ensures { result ≡ is_in_log off.now recs.now }
+/// Whether a record of the log names the entry.
+fn is_in_log(log: &NodeLog<'_>, off: &str) -> bool
+    ensures { result ≡ is_in_log off.now log.now.recs }
 {
+    let recs = log.recs();
     let mut named = false;
     for number in 0..recs.len() {
         named = is_either(named, names_entry(recs.get(number), off));

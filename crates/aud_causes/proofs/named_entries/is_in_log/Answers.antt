@@ -7,7 +7,7 @@ use Rattle.aud_causes.proofs.named_entries.is_in_log.Goals as goal
 
 pub loop-number-preserved : goal.loop-number-preserved
 loop-number-preserved c =
-    let named = λ (number : ℕ). names_entry c.args.off.now (slice_get c.args.recs.now number) in
+    let named = λ (number : ℕ). names_entry c.args.off.now (slice_get c.args.log.now.recs number) in
     let i = c.loop-number.number in
     c.is_either.ensures
     ∙ ap (λ b. b || c.names_entry.result) c.loop-number.invariant

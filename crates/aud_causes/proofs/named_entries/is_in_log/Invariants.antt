@@ -6,4 +6,4 @@ use Rattle.aud_causes.proofs.named_entries.is_in_log.Given as goal
 
 -- one so far does
 abbrev pub invariant-loop-number : goal.invariant-loop-number
-invariant-loop-number l = l.named ≡ list_any (λ number. names_entry l.off (slice_get l.recs number)) (numbers_from 0 l.number)
+invariant-loop-number l = l.named ≡ list_any (λ number. names_entry l.off (slice_get l.log.recs number)) (numbers_from 0 l.number)
