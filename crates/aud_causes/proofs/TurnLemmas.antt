@@ -174,7 +174,7 @@ pub record AreEnded (count : ℕ) (marks : List TurnMark) (seen : ℕ) (ended : 
   pub each : (k : ℕ) → k < count → slice_get ended k ≡ Some (list_any (λ number. is_turn k (ended_by marks number)) (numbers_from 0 seen))
 
 -- it holds of one of the numbers with one more, or of that
-any-more : (p : ℕ → Bool) (i : ℕ) → list_any p (numbers_from 0 (i + 1)) ≡ (list_any p (numbers_from 0 i) || p i)
+pub any-more : (p : ℕ → Bool) (i : ℕ) → list_any p (numbers_from 0 (i + 1)) ≡ (list_any p (numbers_from 0 i) || p i)
 any-more p i =
     ap (list_any p) (numbers_from-more i)
     ∙ list_any-append p (numbers_from 0 i) (i ∷ [])

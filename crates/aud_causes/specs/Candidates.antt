@@ -14,7 +14,7 @@ use Rattle.aud_causes.specs.declared.found.CauseFound.{CauseFound}
 abbrev pub candidates : Fault → List Text
 candidates fault.NoLog = codes "open-not-recorded" ∷ codes "node-not-tapped" ∷ []
 candidates fault.Chain =
-    codes "node-not-tapped" ∷ codes "missing-break" ∷ codes "cleared-after-break"
+    codes "node-not-tapped" ∷ codes "missing-back" ∷ codes "missing-break" ∷ codes "cleared-after-break"
     ∷ codes "turn-not-stored" ∷ codes "recovered-twice" ∷ codes "opened-twice" ∷ []
 candidates fault.Order =
     codes "no-start" ∷ codes "restarted-in-old-log" ∷ codes "entries-skipped-by-node"
@@ -23,9 +23,9 @@ candidates fault.Client = codes "two-taps" ∷ codes "no-client-tap" ∷ codes "
 candidates fault.Names = codes "sid-differs" ∷ codes "namespace-differs" ∷ []
 candidates fault.Frame = codes "not-a-packet" ∷ []
 candidates fault.Orphan =
-    codes "cut-before-reply" ∷ codes "tap-began-late" ∷ codes "after-disconnect" ∷ codes "out-after-answer"
-    ∷ codes "second-connect" ∷ codes "reply-without-pid" ∷ []
-candidates (fault.Content off) = codes "another-encoder" ∷ codes "attachments-reordered" ∷ codes "another-event" ∷ codes "altered" ∷ []
+    codes "cut-before-reply" ∷ codes "tap-began-late" ∷ codes "reply-missing" ∷ codes "after-disconnect"
+    ∷ codes "out-after-answer" ∷ codes "second-connect" ∷ codes "reply-without-pid" ∷ []
+candidates (fault.Content off) = codes "another-encoder" ∷ codes "attachments-reordered" ∷ codes "altered" ∷ codes "another-event" ∷ []
 candidates (fault.Extra off) =
     codes "node-behind-break" ∷ codes "rooms-at-break" ∷ codes "offset-of-another-session" ∷ codes "log-ended-early" ∷ codes "late-leave"
     ∷ codes "before-birth" ∷ codes "extra-live" ∷ codes "join-missing" ∷ codes "leave-missing"

@@ -15,7 +15,7 @@ use Rattle.aud_causes.specs.Twice.{is_as_often, opened_twice, twice_causes}
 -- records take it back for one turn; two open it
 abbrev pub chain_causes : Cluster → Text → List TurnMark → List StaySeen → List Cause
 chain_causes c pid marks stays =
-    missing_causes (begins_of marks) (breaks_of marks) (ends_of marks) (recoveries stays)
+    missing_causes marks (begins_of marks) (breaks_of marks) (ends_of marks) (recoveries stays)
     ++ cleared_after_break c pid
     ++ twice_causes (begins_of marks) (ends_of marks) (is_as_often marks (recoveries stays)) marks
     ++ option_to_list (opened_twice marks)

@@ -128,8 +128,8 @@ event_causes frame event altered =
     held
     (cause_if (is_by_another_encoder frame event) (AnotherEncoder altered.frame altered.part)
     ∷ cause_if (is_reordered frame event) (AttachmentsReordered altered.frame)
-    ∷ cause_if (is_another_event frame event) (AnotherEvent altered.frame)
-    ∷ cause_if (is_altered frame event) (Altered altered.frame altered.part) ∷ [])
+    ∷ cause_if (is_altered frame event) (Altered altered.frame altered.part)
+    ∷ cause_if (is_another_event frame event) (AnotherEvent altered.frame) ∷ [])
 
 -- the same where there is such a frame and its entry is an event; else it is altered
 abbrev pub causes_against : Option FrameSeen → Option StreamRec → AlteredFrame → List Cause

@@ -23,10 +23,10 @@ abbrev pub is_not_replayed : Option Replay → ℕ → Bool
 is_not_replayed None p = false
 is_not_replayed (Some replay) p = not (is_replayed replay p)
 
--- the entry came in no replay, for sure: the later stay is no recovery, or the entry isn't one that was to be replayed
--- in it
+-- the entry came in no replay, for sure: the stays match the turns, and the later one is no recovery, or the entry isn't
+-- one that was to be replayed in it
 abbrev pub is_outside : Facts → Bool
-is_outside f = not f.recovered || is_not_replayed f.replay f.parted.position
+is_outside f = f.matched && (not f.recovered || is_not_replayed f.replay f.parted.position)
 
 -- no recovery stands between the two frames, and the entry came in no replay
 abbrev pub is_live : Facts → Bool
@@ -60,9 +60,9 @@ abbrev pub is_past : Option Replay → ℕ → Bool
 is_past None p = false
 is_past (Some replay) p = nat_lt replay.low p
 
--- the session was not taken back in the later stay, or the node took the entry after that
+-- the stays match the turns, and the session was not taken back in the later one, or the node took the entry after that
 abbrev pub is_taken_live : Facts → Bool
-is_taken_live f = not f.recovered || is_past f.replay f.parted.position
+is_taken_live f = f.matched && (not f.recovered || is_past f.replay f.parted.position)
 
 -- so an entry was left out while the client was connected
 abbrev pub lost_live : Facts → Option Cause

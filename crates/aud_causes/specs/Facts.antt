@@ -72,9 +72,8 @@ stays_match stream turns stays = nat_eq (length turns) (length stays) && begin_a
 
 -- the cursor of the node at the begin of the turn of the session's stay with this number, where that is known: the stays
 -- match the turns
-abbrev pub low_of_turn : List StreamRec → List TurnSeen → List StaySeen → ℕ → Option ℕ
-low_of_turn stream turns stays number =
-    if stays_match stream turns stays then option_map (λ (t : TurnSeen). t.low) (slice_get turns number) else None
+abbrev pub low_of_turn : Bool → List TurnSeen → ℕ → Option ℕ
+low_of_turn matched turns number = if matched then option_map (λ (t : TurnSeen). t.low) (slice_get turns number) else None
 
 -- what the node had to send again: what comes after the position that was asked for, up to its cursor where it took the
 -- session back; where both are known
@@ -85,15 +84,16 @@ replay_of _ _ = None
 -- the facts of a difference, where these are the session's turns and the stays whose reply names it
 abbrev pub facts_of : List StreamRec → List TurnSeen → List StaySeen → Difference → Facts
 facts_of stream turns stays difference =
-    facts_at stream turns stays (parted_at difference) (earlier_stay stays difference) (stay_of_frame stays 0 (parted_at difference).again)
+    facts_at stream turns stays (stays_match stream turns stays) (parted_at difference) (earlier_stay stays difference) (stay_of_frame stays 0 (parted_at difference).again)
   where
-    facts_at : List StreamRec → List TurnSeen → List StaySeen → Parted → ℕ → ℕ → Facts
-    facts_at stream turns stays parted earlier later =
+    facts_at : List StreamRec → List TurnSeen → List StaySeen → Bool → Parted → ℕ → ℕ → Facts
+    facts_at stream turns stays matched parted earlier later =
         record {
           parted = parted;
+          matched = matched;
           earlier = earlier;
           later = later;
           recovered = is_recovery (slice_get stays later);
           asked = asked_after stream (slice_get stays later);
-          replay = replay_of (asked_after stream (slice_get stays later)) (low_of_turn stream turns stays later);
+          replay = replay_of (asked_after stream (slice_get stays later)) (low_of_turn matched turns later);
         }

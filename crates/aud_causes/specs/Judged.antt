@@ -24,7 +24,7 @@ use Rattle.aud_causes.specs.Orphans.{orphan_causes}
 abbrev pub causes_found : Case → Option Finding → List Cause
 causes_found s (Some (Content altered)) = content_causes s.c s.client s.numbers altered
 causes_found s (Some (Delivery difference)) = difference_causes s difference
-causes_found s (Some (Window window)) = window_causes s.c.stream s.stays s.due window
+causes_found s (Some (Window window)) = window_causes s.c s.stays s.due window
 causes_found s _ = []
 
 -- what differs between the stays and this, which the session's first record opens

@@ -25,6 +25,7 @@ pub mod Unrecorded
 pub mod Differences
 pub mod SameJson
 pub mod Contents
+pub mod NamedEntries
 pub mod Windows
 pub mod Names
 pub mod Orphans

@@ -4,14 +4,14 @@ use Rattle.std.specs.List.{starts_with}
 use Rattle.std.specs.Option.{option_and_then}
 use Rattle.std.specs.Str.{bytes_eq}
 use Rattle.aud_tap.specs.declared.records.ClientRec.{ClientRec}
-use Rattle.aud_tap.specs.declared.records.ClientRec.TheVariants.{Conn, TextIn, TextOut}
+use Rattle.aud_tap.specs.declared.records.ClientRec.TheVariants.{Conn, Lost, TextIn, TextOut}
 use Rattle.aud_node.specs.Cluster.{Cluster}
 use Rattle.aud_client.specs.Replies.{ReplySeen}
 use Rattle.aud_client.specs.StayPlaces.{PlacesSeen}
 use Rattle.aud_client.specs.StaySeen.{AskedSeen, StaySeen}
 use Rattle.aud_session_facts.specs.Recoveries.{stays_at}
 use Rattle.aud_causes.specs.declared.cause.Cause.{Cause}
-use Rattle.aud_causes.specs.declared.cause.Cause.TheVariants.{TapBeganLate, CutBeforeReply, ReplyWithoutPid, OutAfterAnswer, SecondConnect, AfterDisconnect}
+use Rattle.aud_causes.specs.declared.cause.Cause.TheVariants.{TapBeganLate, CutBeforeReply, ReplyMissing, ReplyWithoutPid, OutAfterAnswer, SecondConnect, AfterDisconnect}
 use Rattle.aud_causes.specs.Bodies.{client_record, places_at}
 use Rattle.aud_causes.specs.Delivery.{cause_if}
 use Rattle.aud_causes.specs.Differences.{cause_and}
@@ -73,12 +73,39 @@ abbrev pub began_late : Cluster → ℕ → ℕ → StaySeen → Bool
 began_late c client number stay =
     nat_eq number 0 && begins stay.c (client_record c client 0) && not (is_asked_first c client number)
 
+-- ---- the connection's end
+
+-- the record after the stay's last one, of the stay with this number of the client's tap at this place
+abbrev pub next_of_stay : Cluster → ℕ → ℕ → Option ClientRec
+next_of_stay c client number = option_and_then (λ (p : PlacesSeen). client_record c client (suc p.last)) (slice_get (places_at c client) number)
+
+-- the connection is over: it is lost, or another one begins
+abbrev pub ends_connection : ClientRec → Bool
+ends_connection Lost = true
+ends_connection (Conn c) = true
+ends_connection _ = false
+
+-- so it is at the record, if there is one
+abbrev pub is_cut : Option ClientRec → Bool
+is_cut None = false
+is_cut (Some r) = ends_connection r
+
+-- the record doesn't say that the connection goes on: so it is, or the tap ends there
+abbrev pub may_be_cut : Option ClientRec → Bool
+may_be_cut None = true
+may_be_cut (Some r) = ends_connection r
+
 -- ---- the causes
 
--- events came without a reply: the client asked for a session; or it did not, and the tap may have begun late
-abbrev pub without_reply : ℕ → Option AskedSeen → Bool → Option Cause
-without_reply number (Some asked) late = Some (CutBeforeReply number)
-without_reply number None late = cause_if late (TapBeganLate number)
+-- events came without a reply: the client asked for a session, and the connection doesn't go on, by the record that comes
+-- next; or it did not ask, and the tap may have begun late
+abbrev pub without_reply : ℕ → Option AskedSeen → Option ClientRec → Bool → Option Cause
+without_reply number (Some asked) next late = cause_if (may_be_cut next) (CutBeforeReply number)
+without_reply number None next late = cause_if late (TapBeganLate number)
+
+-- the client asked for a session, and no reply is recorded, though nothing says that the connection was cut before it
+abbrev pub reply_lost : ℕ → Option AskedSeen → Option ClientRec → Option Cause
+reply_lost client asked next = cause_if (is_some asked && not (is_cut next)) (ReplyMissing client)
 
 -- in the stay before no session was asked for, and it doesn't begin with the client's CONNECT
 abbrev pub out_after_answer : ℕ → ℕ → StaySeen → Bool → Option Cause
@@ -104,7 +131,11 @@ causes_of_before c client number (Some before) =
 -- of events in this stay, before which this one stands in its connection and namespace
 abbrev pub unreplied_causes : Cluster → ℕ → ℕ → StaySeen → Option ℕ → List Cause
 unreplied_causes c client number stay before =
-    cause_and (without_reply number stay.asked (began_late c client number stay)) (causes_of_before c client number before)
+    cause_and
+    (without_reply number stay.asked (next_of_stay c client number) (began_late c client number stay))
+    (cause_and
+    (reply_lost client stay.asked (next_of_stay c client number))
+    (causes_of_before c client number before))
 
 -- of events in a stay with this reply, or without one: the reply names nobody
 abbrev pub replied_causes : Cluster → ℕ → ℕ → StaySeen → Option ReplySeen → List Cause

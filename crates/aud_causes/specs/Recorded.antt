@@ -1,7 +1,9 @@
 -- What a fault of the recording may come from.
-use Rattle.std.specs.Prelude.{◌≡◌, ℕ, Bool, true, false, List, [], ◌∷◌, flat_map, length, Option, Some, None, option_to_list, slice_get}
+use Rattle.std.specs.Prelude.{◌≡◌, ℕ, Bool, true, false, not, List, [], ◌∷◌, flat_map, length, nat_eq, Option, Some, None, option_to_list, slice_get}
 use Rattle.std.specs.List.{list_any}
 use Rattle.std.specs.Option.{option_and_then, option_map}
+use Rattle.aud_tap.specs.declared.records.NodeRec.{NodeRec}
+use Rattle.aud_tap.specs.declared.records.NodeRec.TheVariants as rec
 use Rattle.aud_tap.specs.declared.taps.Tap.{Tap}
 use Rattle.aud_tap.specs.declared.taps.Records.{Records}
 use Rattle.aud_tap.specs.declared.taps.Records.TheVariants as records
@@ -56,15 +58,36 @@ is_node tap = is_of_node tap.records
 abbrev pub open_missing : Cluster → Option Cause
 open_missing c = cause_if (list_any is_node c.taps) (OpenNotRecorded None)
 
--- the causes of a session that no node opened, where this is its first record on a node, if it has any: no log has its
--- `open`; or, where none has any record of it, a node is tapped, and the `open` alone is missing; or its node is not
-abbrev pub opened_by : Cluster → Option RecordPlace → List Cause
-opened_by c (Some first) = OpenNotRecorded (Some first) ∷ []
-opened_by c None = held (open_missing c ∷ Some (NodeNotTapped 0) ∷ [])
+-- no log has the session's `open`, where this is its first record on a node, if it has any; without one, where a node is
+-- tapped
+abbrev pub open_not_recorded : Cluster → Option RecordPlace → Option Cause
+open_not_recorded c (Some first) = Some (OpenNotRecorded (Some first))
+open_not_recorded c None = open_missing c
 
--- the same of the session with this pid
+-- the record, with which a log's records of the session begin, is of its turn 0: the `break` of that turn, or one that
+-- stands before any `back` or `break`
+abbrev pub is_of_first_turn : Option NodeRec → Bool
+is_of_first_turn None = false
+is_of_first_turn (Some (rec.Back pid turn)) = false
+is_of_first_turn (Some (rec.Broke pid turn)) = nat_eq turn 0
+is_of_first_turn _ = true
+
+-- the session's first record in the log of the node at this place
+abbrev pub first_on : Cluster → Text → ℕ → Option NodeRec
+first_on c pid node =
+    option_and_then (λ (tap : NodeTap). option_and_then (slice_get tap.recs) (slice_get (own_numbers tap.recs pid) 0)) (node_at c node)
+
+-- that of one of these nodes is of turn 0
+abbrev pub has_first_turn : Cluster → Text → List ℕ → Bool
+has_first_turn c pid nodes = list_any (λ node. is_of_first_turn (first_on c pid node)) nodes
+
+-- the node that opened the session is not tapped: no log has a record of its turn 0
+abbrev pub opener_not_tapped : Cluster → Text → Option Cause
+opener_not_tapped c pid = cause_if (not (has_first_turn c pid (own_places c pid))) (NodeNotTapped 0)
+
+-- the causes of a session that no node opened: its `open` alone is missing; or its node isn't tapped
 abbrev pub no_log_causes : Cluster → Text → List Cause
-no_log_causes c pid = opened_by c (first_own c pid)
+no_log_causes c pid = held (open_not_recorded c (first_own c pid) ∷ opener_not_tapped c pid ∷ [])
 
 -- the causes of a break in the chain of the session's turns, where this is the place of its client's tap
 abbrev pub causes_of_turns : Cluster → Option ℕ → Text → List Cause

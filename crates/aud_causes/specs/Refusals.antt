@@ -1,7 +1,6 @@
 -- What the refusal of a recovery may come from.
-use Rattle.std.specs.Prelude.{ℕ, ◌-◌, ◌||◌, List, [], ◌∷◌, length, Option, Some, None, is_some, if◌then◌else◌, nat_le, nat_lt, slice_get}
+use Rattle.std.specs.Prelude.{ℕ, ◌-◌, ◌||◌, not, List, [], ◌∷◌, length, Option, Some, None, is_some, if◌then◌else◌, nat_le, nat_lt, slice_get}
 use Rattle.std.specs.Option.{option_map, option_and_then}
-use Rattle.aud_tap.specs.declared.records.StreamRec.{StreamRec}
 use Rattle.aud_node.specs.Cluster.{Cluster}
 use Rattle.aud_node.specs.NodeTap.{NodeTap, cursor_after}
 use Rattle.aud_node.specs.NodeTaps.{node_at}
@@ -17,20 +16,21 @@ use Rattle.aud_causes.specs.declared.cause.Cause.{Cause}
 use Rattle.aud_causes.specs.declared.cause.Cause.TheVariants.{NoOffset, UnknownOffset, SessionOver, NodeEndedInTurn, NeverBroken, AskedTooEarly}
 use Rattle.aud_causes.specs.Delivery.{cause_if, held}
 use Rattle.aud_causes.specs.LastTurn.{is_ended, last_begin, last_turn}
+use Rattle.aud_causes.specs.NamedEntries.{is_named}
 use Rattle.aud_causes.specs.TakenBack.{marks_before}
 use Rattle.aud_causes.specs.Turns.{is_broken}
 
 -- ---- the offset
 
--- the stream has no such position
-abbrev pub unknown_offset : Option ℕ → Option Cause
-unknown_offset None = Some (UnknownOffset 0)
-unknown_offset (Some p) = None
+-- the stream has no such position, and no node's log names the entry of this offset
+abbrev pub unknown_offset : Cluster → Text → Option ℕ → Option Cause
+unknown_offset c off None = cause_if (not (is_named c off)) (UnknownOffset 0)
+unknown_offset c off (Some p) = None
 
--- the client gave no offset, or one that the stream doesn't have
-abbrev pub offset_cause : List StreamRec → Option Text → Option Cause
-offset_cause stream None = Some (NoOffset 0)
-offset_cause stream (Some off) = unknown_offset (position stream off)
+-- the client gave no offset, or one that neither the stream nor a node's log has
+abbrev pub offset_cause : Cluster → Option Text → Option Cause
+offset_cause c None = Some (NoOffset 0)
+offset_cause c (Some off) = unknown_offset c off (position c.stream off)
 
 -- ---- the records that begin and end turns
 
@@ -122,7 +122,7 @@ got_of (Some reply) = pid_or_empty reply.pid
 abbrev pub asked_causes : Cluster → List StaySeen → ℕ → AskedSeen → Text → List Cause
 asked_causes c stays number asked got =
     refused_causes c
-    (offset_cause c.stream asked.offset)
+    (offset_cause c asked.offset)
     (asked_too_early c (turn_marks c asked.pid) (turn_marks c got))
     (marks_before (turn_marks c asked.pid) stays number asked.pid)
 

@@ -12,7 +12,7 @@ use Rattle.aud_causes.specs.declared.record_at.Records.TheVariants.{Nothing, One
 use Rattle.aud_causes.specs.declared.table.Row.{Row}
 use Rattle.aud_causes.specs.NoPacket.{advice, no_packet_figures, no_packet_words}
 use Rattle.aud_causes.specs.declared.cause.Cause.{Cause}
-use Rattle.aud_causes.specs.declared.cause.Cause.TheVariants.{NodeBehindBreak, SentAgainAfterReplay, ReplayIncludesOffset, DoubledInReplay, StaleOffset, BodyCameTwice, OffsetOfAnotherSession, FrameNotRecorded, UnknownOffset, NoOffset, RoomsAtBreak, SkippedInWindow, LostLive, DoubledLive, SwappedLive, SwappedInReplay, AnotherEncoder, AttachmentsReordered, AnotherEvent, Altered, LogEndedEarly, LateLeave, BeforeBirth, ExtraLive, JoinMissing, LeaveMissing, RecoveryNotRecorded, MissingBreak, ClearedAfterBreak, TurnNotStored, RecoveredTwice, OpenedTwice, OpenNotRecorded, NodeNotTapped, NoStart, RestartedInOldLog, EntriesSkippedByNode, EntryTakenAgain, NotInStream, TwoTaps, NoClientTap, ReplyMissing, ClientTapHasNoPackets, SidDiffers, NamespaceDiffers, NotAPacket, TapBeganLate, CutBeforeReply, ReplyWithoutPid, OutAfterAnswer, SecondConnect, AfterDisconnect, SessionOver, NodeEndedInTurn, NeverBroken, AskedTooEarly}
+use Rattle.aud_causes.specs.declared.cause.Cause.TheVariants.{NodeBehindBreak, SentAgainAfterReplay, ReplayIncludesOffset, DoubledInReplay, StaleOffset, BodyCameTwice, OffsetOfAnotherSession, FrameNotRecorded, UnknownOffset, NoOffset, RoomsAtBreak, SkippedInWindow, LostLive, DoubledLive, SwappedLive, SwappedInReplay, AnotherEncoder, AttachmentsReordered, AnotherEvent, Altered, LogEndedEarly, LateLeave, BeforeBirth, ExtraLive, JoinMissing, LeaveMissing, RecoveryNotRecorded, MissingBreak, MissingBack, ClearedAfterBreak, TurnNotStored, RecoveredTwice, OpenedTwice, OpenNotRecorded, NodeNotTapped, NoStart, RestartedInOldLog, EntriesSkippedByNode, EntryTakenAgain, NotInStream, TwoTaps, NoClientTap, ReplyMissing, ClientTapHasNoPackets, SidDiffers, NamespaceDiffers, NotAPacket, TapBeganLate, CutBeforeReply, ReplyWithoutPid, OutAfterAnswer, SecondConnect, AfterDisconnect, SessionOver, NodeEndedInTurn, NeverBroken, AskedTooEarly}
 
 -- what is said of a cause: its name, for scripts; the records that show it; what happened, in words, where in the place of
 -- each `#` stands the next of the figures; and what to do
@@ -66,8 +66,8 @@ row_of (DoubledInReplay first again) = row (codes "doubled-in-replay") (Got firs
     (codes "The entry is one of those to be sent again, and came twice in one recovery.") []
     (codes "look at how the node reads the stream for the replay: no entry may stand in two of its pages.")
 row_of (StaleOffset stay after) = row (codes "stale-offset") (Ask stay ∷ [])
-    (codes "The client asked to go on after entry #, and had later ones already.") (Number after ∷ [])
-    (codes "store the offset with each event, before the event is worked on.")
+    (codes "The client asked to go on after entry #, and its tap has later ones.") (Number after ∷ [])
+    (codes "store the offset with each event, before the event is worked on, and put the client's tap there.")
 row_of (BodyCameTwice first again false) = row (codes "body-came-twice") (Got first ∷ Got again ∷ [])
     (codes "From this entry on, all that came before the recovery had come in one body of polling.") []
     (codes "see whether the client refused that body, for its packets are too many or too long.")
@@ -90,8 +90,8 @@ row_of (RoomsAtBreak stay after low) = row (codes "rooms-at-break") (Ask stay �
     (codes "Of the entries after # up to #, exactly those came that are for the rooms held at the break.") (Number after ∷ Number low ∷ [])
     (codes "join again after a recovery, or accept it: public adapters replay by the rooms at the break.")
 row_of (SkippedInWindow stay after low) = row (codes "skipped-in-window") (Ask stay ∷ Reply stay ∷ [])
-    (codes "The entry is one of those to be sent again, after # up to #, and was left out.") (Number after ∷ Number low ∷ [])
-    (codes "look at how the node reads the stream for the replay.")
+    (codes "The entry is one of those to be sent again, after # up to #, and no frame of it came.") (Number after ∷ Number low ∷ [])
+    (codes "look at how the node reads the stream for the replay, and at what stands between it and the client.")
 row_of (LostLive frame) = row (codes "lost-live") (Got frame ∷ [])
     (codes "The node took the entry while the client was connected, and no frame of it came.") []
     (codes "look at what stands between the node and the client, and at what the node sent.")
@@ -123,8 +123,8 @@ row_of (LateLeave leave) = row (codes "late-leave") (Node leave ∷ [])
     (codes "The session had left a room of the entry before it reached the entry.") []
     (codes "send an entry by the rooms that the session holds when the node takes it.")
 row_of (BeforeBirth begin low) = row (codes "before-birth") (Node begin ∷ [])
-    (codes "# had taken the entry when it opened the session, with its cursor at #.") (Name begin.node ∷ Number low ∷ [])
-    (codes "send a session nothing that the node took before it opened the session.")
+    (codes "By its log # had taken the entry when it opened the session, with its cursor at #.") (Name begin.node ∷ Number low ∷ [])
+    (codes "send a session nothing that the node took before its `open`; see whether that, and `start`, are written in time.")
 row_of (ExtraLive frame) = row (codes "extra-live") (Got frame ∷ [])
     (codes "The node sent the session an entry that was not addressed to it.") []
     (codes "look at how the node picks the sessions of a room.")
@@ -139,10 +139,13 @@ row_of (RecoveryNotRecorded stay recoveries turns) = row (codes "recovery-not-re
     (codes "tap each node, from its start, and write its log unbuffered.")
 row_of (MissingBreak turn begin back (Some stay)) = row (codes "missing-break") (Node begin ∷ Node back ∷ Ask stay ∷ Reply stay ∷ [])
     (codes "The client recovered the session after turn #, so that turn broke; no log has its break.") (Number turn ∷ [])
-    (codes "write a node's log unbuffered; look at the disk and at how logs are rotated.")
+    (codes "write a node's log unbuffered; see whether it ended there, or the node was restarted; look at the disk and at how logs are rotated.")
 row_of (MissingBreak turn begin back None) = row (codes "missing-break") (Node begin ∷ Node back ∷ [])
     (codes "The next turn begins, so turn # broke; no log has its break.") (Number turn ∷ [])
-    (codes "write a node's log unbuffered; look at the disk and at how logs are rotated.")
+    (codes "write a node's log unbuffered; see whether it ended there, or the node was restarted; look at the disk and at how logs are rotated.")
+row_of (MissingBack turn next) = row (codes "missing-back") (Node next ∷ [])
+    (codes "The session had turn #, by its `break` or a later turn; no log has its `back`.") (Number turn ∷ [])
+    (codes "write a node's log from its start, unbuffered; look at whether one ended early, or lost lines.")
 row_of (ClearedAfterBreak broke cleared) = row (codes "cleared-after-break") (Node broke ∷ Node cleared ∷ [])
     (codes "The log of # clears the session up after its break, by a `leave` or its `gone`.") (Name cleared.node ∷ [])
     (codes "write no `leave` and no `gone` for what is cleared up after a break.")

@@ -1,6 +1,6 @@
 -- The turns of a session that have no begin or no break. Both are looked for in all turns, up to the last that a record
 -- begins.
-use Rattle.std.specs.Prelude.{ℕ, suc, ◌-◌, Bool, true, false, ◌&&◌, ◌++◌, List, [], ◌∷◌, flat_map, length, map, Option, Some, None, option_to_list, nat_eq, nat_lt, if◌then◌else◌, slice_get}
+use Rattle.std.specs.Prelude.{ℕ, suc, ◌-◌, Bool, true, false, ◌&&◌, ◌||◌, ◌++◌, List, [], ◌∷◌, flat_map, length, map, Option, Some, None, option_to_list, nat_eq, nat_lt, if◌then◌else◌, slice_get}
 use Rattle.std.specs.List.{find, list_any}
 use Rattle.std.specs.Option.{option_map}
 use Rattle.aud_base.specs.Lists.{numbers_from}
@@ -9,7 +9,7 @@ use Rattle.aud_session_facts.specs.declared.marks.Mark.TheVariants as mark
 use Rattle.aud_session_facts.specs.declared.marks.TurnMark.{TurnMark}
 use Rattle.aud_session_facts.specs.declared.place.RecordPlace.{RecordPlace}
 use Rattle.aud_causes.specs.declared.cause.Cause.{Cause}
-use Rattle.aud_causes.specs.declared.cause.Cause.TheVariants.{MissingBreak, NodeNotTapped}
+use Rattle.aud_causes.specs.declared.cause.Cause.TheVariants.{MissingBack, MissingBreak, NodeNotTapped}
 use Rattle.aud_causes.specs.declared.turns.Unbroken.{Unbroken}
 
 -- ---- the records of a turn
@@ -92,6 +92,35 @@ not_tapped broken turn [] = None
 not_tapped broken turn (begin ∷ begins) =
     if is_untapped begin (slice_get broken turn) then Some (NodeNotTapped turn) else not_tapped broken (suc turn) begins
 
+-- the first turn that no log begins, where these are the begins of the turns from this one on; past them all there is
+-- another
+abbrev pub unbegun : ℕ → List (Option RecordPlace) → ℕ
+unbegun turn [] = turn
+unbegun turn (None ∷ begins) = turn
+unbegun turn (Some begin ∷ begins) = unbegun (suc turn) begins
+
+-- the turn is past this one
+abbrev pub is_past_turn : ℕ → Option ℕ → Bool
+is_past_turn turn None = false
+is_past_turn turn (Some other) = nat_lt turn other
+
+-- the record says that the session had this turn: it begins a later one; or it breaks this one, where one breaks the turn
+-- before
+abbrev pub is_after_begin : ℕ → Bool → Mark → Bool
+is_after_begin turn broken m = is_past_turn turn (begun_turn m) || (broken && is_turn turn (broken_turn m))
+
+-- the first of these records that does
+abbrev pub after_begin : ℕ → Bool → List TurnMark → Option RecordPlace
+after_begin turn broken marks = option_map (λ (m : TurnMark). m.place) (find (λ (m : TurnMark). is_after_begin turn broken m.mark) marks)
+
+-- the cause of this turn
+abbrev pub missing_back_of : List TurnMark → ℕ → Option Cause
+missing_back_of marks turn = option_map (MissingBack turn) (after_begin turn (is_broken marks (turn - 1)) marks)
+
+-- the begin of the first turn that no log begins is missing, where these are the turns' begins
+abbrev pub missing_back : List TurnMark → List (Option RecordPlace) → Option Cause
+missing_back marks begins = missing_back_of marks (unbegun 0 begins)
+
 -- no record breaks this turn, and its log doesn't end it, though the next one begins: where this is its begin, whether
 -- it is broken, and ended, and the next one's begin
 abbrev pub unbroken_by : ℕ → Option (Option RecordPlace) → Option Bool → Option Bool → Option (Option RecordPlace) → Option Unbroken
@@ -119,7 +148,8 @@ missing_break begins broken ended came turn = option_map (missing_by (length beg
 abbrev pub missing_breaks : List (Option RecordPlace) → List Bool → List Bool → List ℕ → List Cause
 missing_breaks begins broken ended came = flat_map (λ turn. option_to_list (missing_break begins broken ended came turn)) (numbers_from 0 (length begins))
 
--- the causes: the first turn that no log begins or breaks, and all that lack their break, where these are the begins of
--- the turns, whether each is broken, and ended in its log, and the recoveries
-abbrev pub missing_causes : List (Option RecordPlace) → List Bool → List Bool → List ℕ → List Cause
-missing_causes begins broken ended came = option_to_list (not_tapped broken 0 begins) ++ missing_breaks begins broken ended came
+-- the causes: the first turn that no log begins or breaks, the first that lacks its begin, and all that lack their break,
+-- where these are the begins of the turns, whether each is broken, and ended in its log, and the recoveries
+abbrev pub missing_causes : List TurnMark → List (Option RecordPlace) → List Bool → List Bool → List ℕ → List Cause
+missing_causes marks begins broken ended came =
+    option_to_list (not_tapped broken 0 begins) ++ option_to_list (missing_back marks begins) ++ missing_breaks begins broken ended came

@@ -1,6 +1,7 @@
 -- A turn for which two records take the session back.
-use Rattle.std.specs.Prelude.{ℕ, Bool, true, false, not, ◌&&◌, ◌||◌, List, [], count_by, flat_map, length, Option, Some, None, if◌then◌else◌, nat_eq, nat_le, slice_get}
+use Rattle.std.specs.Prelude.{ℕ, zero, suc, Bool, true, false, not, ◌&&◌, ◌||◌, List, [], count_by, flat_map, length, Option, Some, None, if◌then◌else◌, nat_eq, nat_le, slice_get}
 use Rattle.std.specs.Option.{option_and_then, option_map, option_or}
+use Rattle.aud_base.specs.Lists.{numbers_from}
 use Rattle.aud_session_facts.specs.declared.marks.Mark.{Mark}
 use Rattle.aud_session_facts.specs.declared.marks.Mark.TheVariants as mark
 use Rattle.aud_session_facts.specs.declared.marks.TurnMark.{TurnMark}
@@ -10,6 +11,7 @@ use Rattle.aud_causes.specs.declared.cause.Cause.TheVariants.{TurnNotStored, Rec
 use Rattle.aud_causes.specs.declared.twice.Twice.{Twice}
 use Rattle.aud_causes.specs.Delivery.{cause_if}
 use Rattle.aud_causes.specs.Differences.{cause_and}
+use Rattle.aud_causes.specs.Turns.{is_turn}
 
 -- the turn for which the record takes the session back, if it is a `back`
 abbrev pub back_turn : Mark → Option ℕ
@@ -30,9 +32,26 @@ abbrev pub begun_twice : ℕ → RecordPlace → Option (Option RecordPlace) →
 begun_twice turn again (Some (Some first)) = if is_place first again then None else Some (record { turn = turn; first = first; again = again })
 begun_twice turn again _ = None
 
--- the record takes the session back for a turn of which another one is the first begin, where these are the turns'
-abbrev pub twice_at : List (Option RecordPlace) → TurnMark → Option Twice
-twice_at begins m = option_and_then (λ turn. begun_twice turn m.place (slice_get begins turn)) (back_turn m.mark)
+-- the record at this place takes the session back for the turn, and so does the one before it in the same log: that can't
+-- be two turns, and one record is written twice
+abbrev pub is_written_again : ℕ → RecordPlace → Option TurnMark → Bool
+is_written_again turn place None = false
+is_written_again turn place (Some before) = nat_eq before.place.node place.node && is_turn turn (back_turn before.mark)
+
+-- the record takes the session back for a turn of which another one is the first begin, where these are the turns', and
+-- this is the record before it; and it isn't that one, written again
+abbrev pub twice_by : List (Option RecordPlace) → Option TurnMark → TurnMark → Option Twice
+twice_by begins before m =
+    option_and_then (λ turn. if is_written_again turn m.place before then None else begun_twice turn m.place (slice_get begins turn)) (back_turn m.mark)
+
+-- the record before the one with this number; those of a log stand together, in its order
+abbrev pub mark_before : List TurnMark → ℕ → Option TurnMark
+mark_before marks zero = None
+mark_before marks (suc number) = slice_get marks number
+
+-- the same of the record with this number
+abbrev pub twice_at : List (Option RecordPlace) → List TurnMark → ℕ → Option Twice
+twice_at begins marks number = option_and_then (twice_by begins (mark_before marks number)) (slice_get marks number)
 
 -- ---- a second `open`
 
@@ -85,4 +104,5 @@ causes_of_twice ended as_often (Some t) = cause_and (turn_not_stored ended as_of
 
 -- those of each of these records, where these are the turns' first begins, and whether their logs end them
 abbrev pub twice_causes : List (Option RecordPlace) → List Bool → Bool → List TurnMark → List Cause
-twice_causes begins ended as_often marks = flat_map (λ m. causes_of_twice ended as_often (twice_at begins m)) marks
+twice_causes begins ended as_often marks =
+    flat_map (λ number. causes_of_twice ended as_often (twice_at begins marks number)) (numbers_from 0 (length marks))

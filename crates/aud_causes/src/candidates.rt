@@ -12,6 +12,7 @@ static NOLOG: [&str; 2] = ["open-not-recorded", "node-not-tapped"];
 
 static CHAIN: [&str; 6] = [
     "node-not-tapped",
+    "missing-back",
     "missing-break",
     "cleared-after-break",
     "turn-not-stored",
@@ -38,9 +39,10 @@ static NAMES: [&str; 2] = ["sid-differs", "namespace-differs"];
 
 static FRAME: [&str; 1] = ["not-a-packet"];
 
-static ORPHAN: [&str; 6] = [
+static ORPHAN: [&str; 7] = [
     "cut-before-reply",
     "tap-began-late",
+    "reply-missing",
     "after-disconnect",
     "out-after-answer",
     "second-connect",
@@ -50,8 +52,8 @@ static ORPHAN: [&str; 6] = [
 static CONTENT: [&str; 4] = [
     "another-encoder",
     "attachments-reordered",
-    "another-event",
     "altered",
+    "another-event",
 ];
 
 static EXTRA: [&str; 10] = [

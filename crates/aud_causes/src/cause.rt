@@ -67,7 +67,7 @@ pub enum Cause {
         after: u64,
         low: u64,
     },
-    /// The entry is one of those to be replayed, and was left out.
+    /// The entry is one of those to be replayed, and no frame of it came.
     SkippedInWindow {
         stay: usize,
         after: u64,
@@ -150,6 +150,11 @@ pub enum Cause {
         begin: RecordPlace,
         back: RecordPlace,
         stay: Option<usize>,
+    },
+    /// No log has the begin of this turn, though a log has its `break`, or a later turn; this record says so.
+    MissingBack {
+        turn: usize,
+        next: RecordPlace,
     },
     /// The session left a room, or was over, after its break in the same log.
     ClearedAfterBreak {

@@ -86,7 +86,6 @@ fn event_causes(
                 is_reordered(same, frame, event),
                 Cause::AttachmentsReordered { frame: number },
             ),
-            cause_if(other, Cause::AnotherEvent { frame: number }),
             cause_if(
                 is_altered(same, frame, event),
                 Cause::Altered {
@@ -94,6 +93,7 @@ fn event_causes(
                     part,
                 },
             ),
+            cause_if(other, Cause::AnotherEvent { frame: number }),
         ],
     )
 }

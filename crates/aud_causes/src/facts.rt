@@ -34,6 +34,8 @@ pub struct Replay {
 pub struct Facts {
     /// The entry in question, and the two frames.
     pub parted: Parted,
+    /// Whether the session's stays match its turns one by one.
+    pub matched: bool,
     /// The stays in which the two frames stand; of an entry that was not due the first is the session's first.
     pub earlier: usize,
     pub later: usize,
@@ -57,9 +59,11 @@ pub(crate) fn facts_of(
     let parted = parted_at(difference);
     let later = stay_of_frame(stays, parted.again);
     let asked = asked_after(stream, stays, later);
-    let low = low_of_turn(stream, turns, stays, later);
+    let matched = stays_match(stream, turns, stays);
+    let low = low_of_turn(matched, turns, later);
     Facts {
         parted,
+        matched,
         earlier: earlier_stay(stays, difference),
         later,
         recovered: is_recovery(stays, later),
@@ -177,16 +181,10 @@ fn asked_position(stream: &Stream<'_>, asked: &Asked) -> Option<u64>
 }
 
 /// The cursor of the node at the begin of the turn of the stay with this number, where the stays match the turns.
-fn low_of_turn(
-    stream: &Stream<'_>,
-    turns: &[Turn<'_>],
-    stays: &[&Stay<'_>],
-    number: usize,
-) -> Option<u64>
-    ensures { result
-        ≡ low_of_turn stream.now turns.now (map (λ stay. stay.now) stays.now) number }
+fn low_of_turn(matched: bool, turns: &[Turn<'_>], number: usize) -> Option<u64>
+    ensures { result ≡ low_of_turn matched turns.now number }
 {
-    if !stays_match(stream, turns, stays) {
+    if !matched {
         return None;
     }
     let turn = turns.get(number)?;

@@ -65,8 +65,8 @@ fn causes_found(
             difference_causes(alloc, recording, account, numbers, difference)
         }
         Some(Finding::Window(window)) => {
-            let stream = recording.logs().stream();
-            window_causes(alloc, stream, &account.stays, &account.due, window)
+            let logs = recording.logs();
+            window_causes(alloc, logs, &account.stays, &account.due, window)
         }
         _ => Ok(Vec::new(alloc)),
     }

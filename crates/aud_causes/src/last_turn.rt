@@ -44,7 +44,8 @@ pub(crate) fn is_broken(marks: &[TurnMark], turn: usize) -> bool
     false
 }
 
-fn is_turn(turn: usize, other: Option<u16>) -> bool
+/// Whether it is this turn.
+pub(crate) fn is_turn(turn: usize, other: Option<u16>) -> bool
     ensures { result ≡ is_turn turn other }
 {
     match other {

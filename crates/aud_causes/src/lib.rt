@@ -44,6 +44,7 @@ mod lines;
 mod list;
 mod live;
 mod logs;
+mod named_entries;
 mod names;
 mod next_change;
 mod no_packet;

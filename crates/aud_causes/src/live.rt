@@ -12,10 +12,14 @@ pub(crate) fn is_replayed(replay: Replay, position: u64) -> bool
     replay.after < position && position <= replay.low
 }
 
-/// Whether the entry came in no replay, for sure: its stay is no recovery, or it isn't one that was to be replayed.
+/// Whether the entry came in no replay, for sure: the stays match the turns, and its stay is no recovery, or it isn't one
+/// that was to be replayed.
 pub(crate) fn is_outside(facts: Facts) -> bool
     ensures { result ≡ is_outside facts }
 {
+    if !facts.matched {
+        return false;
+    }
     if !facts.recovered {
         return true;
     }
@@ -93,10 +97,13 @@ pub(crate) fn swapped_in_replay(facts: Facts) -> Option<Cause>
     })
 }
 
-/// Whether the node took the entry after it took the session back, if it did so.
+/// Whether the stays match the turns, and the node took the entry after it took the session back, if it did so.
 pub(crate) fn is_taken_live(facts: Facts) -> bool
     ensures { result ≡ is_taken_live facts }
 {
+    if !facts.matched {
+        return false;
+    }
     if !facts.recovered {
         return true;
     }

@@ -3,7 +3,7 @@ ghost use Rattle.std.specs.Prelude.{◌≡◌, ◌++◌, IfOk, None, OnOk, codes
 ghost use Rattle.std.specs.List.{starts_with};
 ghost use Rattle.std.specs.Option.{option_copied};
 ghost use Rattle.aud_session_facts.specs.Recoveries.{stays_at};
-ghost use Rattle.aud_causes.specs.Orphans.{answered_causes, began_late, begins, causes_of_before, first_of_stay, is_asked_first, is_beside, is_disconnect, last_beside, last_of_stay, orphan_causes, out_after_answer, replied_causes, stay_before, unreplied_causes, without_reply};
+ghost use Rattle.aud_causes.specs.Orphans.{answered_causes, began_late, begins, causes_of_before, ends_connection, first_of_stay, is_asked_first, is_beside, is_cut, is_disconnect, last_beside, last_of_stay, may_be_cut, next_of_stay, orphan_causes, out_after_answer, replied_causes, reply_lost, stay_before, unreplied_causes, without_reply};
 
 use crate::bodies::{client_record, places_at};
 use crate::cause::Cause;
@@ -80,20 +80,82 @@ fn unreplied_causes(
         ≡ unreplied_causes recording.now client number stay.now before) }
 {
     let late = began_late(recording, client, number, stay);
-    let mut found = held(alloc, &[without_reply(number, stay, late)])?;
+    let next = next_of_stay(recording, client, number);
+    let mut found = held(
+        alloc,
+        &[
+            without_reply(number, stay, next, late),
+            reply_lost(client, stay, next),
+        ],
+    )?;
     push_before(&mut found, recording, client, number, before)?;
     Ok(found)
 }
 
-/// Where the client asked for a session; or where it did not, and the tap may have begun late.
-fn without_reply(number: usize, stay: &Stay<'_>, late: bool) -> Option<Cause>
-    ensures { result ≡ without_reply number stay.now.asked late }
+/// Where the client asked for a session, and the connection doesn't go on, by the record that comes next; or where it did
+/// not ask, and the tap may have begun late.
+fn without_reply(
+    number: usize,
+    stay: &Stay<'_>,
+    next: Option<&ClientRec>,
+    late: bool,
+) -> Option<Cause>
+    ensures { result ≡ without_reply number stay.now.asked (option_copied next.entry) late }
 {
     match &stay.asked {
-        Some(_) => Some(Cause::CutBeforeReply { stay: number }),
+        Some(_) if may_be_cut(next) => Some(Cause::CutBeforeReply { stay: number }),
         None if late => Some(Cause::TapBeganLate { stay: number }),
-        None => None,
+        _ => None,
     }
+}
+
+/// Where the client asked for a session, and nothing says that the connection was cut before the reply.
+fn reply_lost(client: usize, stay: &Stay<'_>, next: Option<&ClientRec>) -> Option<Cause>
+    ensures { result ≡ reply_lost client stay.now.asked (option_copied next.entry) }
+{
+    if stay.asked.is_none() || is_cut(next) {
+        return None;
+    }
+    Some(Cause::ReplyMissing { client })
+}
+
+/// The record after the last one of the stay with this number of the client's tap at this place.
+fn next_of_stay<'a>(
+    recording: &Recording<'a>,
+    client: usize,
+    number: usize,
+) -> Option<&'a ClientRec>
+    ensures { option_copied result ≡ next_of_stay recording.now client number }
+{
+    let places = places_at(recording, client).get(number)?;
+    client_record(recording, client, places.last as usize + 1)
+}
+
+/// Whether the connection is over by the record, if there is one.
+fn is_cut(next: Option<&ClientRec>) -> bool
+    ensures { result ≡ is_cut (option_copied next.entry) }
+{
+    match next {
+        Some(rec) => ends_connection(rec),
+        None => false,
+    }
+}
+
+/// Whether it is, or the tap ends there.
+fn may_be_cut(next: Option<&ClientRec>) -> bool
+    ensures { result ≡ may_be_cut (option_copied next.entry) }
+{
+    match next {
+        Some(rec) => ends_connection(rec),
+        None => true,
+    }
+}
+
+/// Whether the connection is lost at the record, or another one begins.
+fn ends_connection(rec: &ClientRec) -> bool
+    ensures { result ≡ ends_connection rec.now }
+{
+    matches!(rec, ClientRec::Lost | ClientRec::Conn { .. })
 }
 
 /// Whether nothing says that the tap has the connection from its beginning: the stay is the tap's first one, in its

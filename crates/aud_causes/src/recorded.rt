@@ -1,7 +1,8 @@
 //! What a fault of the recording may come from: one for which the session has no certificate.
 ghost use Rattle.std.specs.Prelude.{◌≡◌, IfOk, map};
 ghost use Rattle.std.specs.List.{list_any};
-ghost use Rattle.aud_causes.specs.Recorded.{AreRecordedCauses, causes_of_turns, first_own, is_node, no_log_causes, open_missing, order_causes, stays_of_client};
+ghost use Rattle.std.specs.Option.{option_copied};
+ghost use Rattle.aud_causes.specs.Recorded.{AreRecordedCauses, causes_of_turns, first_on, first_own, has_first_turn, is_node, is_of_first_turn, no_log_causes, open_missing, open_not_recorded, opener_not_tapped, order_causes, stays_of_client};
 
 use crate::cause::Cause;
 use crate::list::{held, push_cause};
@@ -12,7 +13,7 @@ use aud_cert::Fault;
 use aud_client::{Recording, Stay};
 use aud_node::Logs;
 use aud_session_facts::{RecordPlace, turn_marks};
-use aud_tap::{Records, Tap};
+use aud_tap::{NodeRec, Records, Tap};
 use std::alloc::{AllocError, Global};
 
 /// The causes of such a fault of the session with this pid, whose one client's tap is at this place, if it has one,
@@ -37,19 +38,63 @@ pub(crate) fn recorded_causes(
     }
 }
 
-/// The causes of a session that no node opened. Where no log has a record of it, it costs the taps up to the first node's.
+/// The causes of a session that no node opened: its `open` alone is missing; or its node isn't tapped. Where no log has a
+/// record of it, it costs the taps up to the first node's.
 fn no_log_causes(alloc: Global, logs: &Logs<'_>, pid: &str) -> Result<Vec<Cause>, AllocError>
     ensures { IfOk result (λ found. found.items ≡ no_log_causes logs.now pid.now) }
 {
-    match first_own(logs, pid) {
-        Some(first) => held(
-            alloc,
-            &[Some(Cause::OpenNotRecorded { first: Some(first) })],
-        ),
-        None => held(
-            alloc,
-            &[open_missing(logs), Some(Cause::NodeNotTapped { turn: 0 })],
-        ),
+    let open = open_not_recorded(logs, first_own(logs, pid));
+    held(alloc, &[open, opener_not_tapped(logs, pid)])
+}
+
+/// Where this is the session's first record on a node; or where it has none, and a node is tapped.
+fn open_not_recorded(logs: &Logs<'_>, first: Option<RecordPlace>) -> Option<Cause>
+    ensures { result ≡ open_not_recorded logs.now first }
+{
+    match first {
+        Some(first) => Some(Cause::OpenNotRecorded { first: Some(first) }),
+        None => open_missing(logs),
+    }
+}
+
+/// Where no log has a record of the session's turn 0.
+fn opener_not_tapped(logs: &Logs<'_>, pid: &str) -> Option<Cause>
+    ensures { result ≡ opener_not_tapped logs.now pid.now }
+{
+    if has_first_turn(logs, pid, logs.nodes_of(pid)) {
+        return None;
+    }
+    Some(Cause::NodeNotTapped { turn: 0 })
+}
+
+/// Whether the session's first record on one of these nodes is of its turn 0.
+fn has_first_turn(logs: &Logs<'_>, pid: &str, nodes: &[usize]) -> bool
+    ensures { result ≡ has_first_turn logs.now pid.now nodes.now }
+{
+    for node in nodes {
+        if is_of_first_turn(first_on(logs, pid, *node)) {
+            return true;
+        }
+    }
+    false
+}
+
+/// The session's first record in the log of this node.
+fn first_on<'a>(logs: &Logs<'a>, pid: &str, node: usize) -> Option<&'a NodeRec>
+    ensures { option_copied result ≡ first_on logs.now pid.now node }
+{
+    let log = logs.node(node)?;
+    log.recs().get(*log.own(pid).first()?)
+}
+
+/// Whether the record, with which a log's records of a session begin, is of the session's turn 0.
+fn is_of_first_turn(rec: Option<&NodeRec>) -> bool
+    ensures { result ≡ is_of_first_turn (option_copied rec.entry) }
+{
+    match rec {
+        None | Some(NodeRec::Back { .. }) => false,
+        Some(NodeRec::Broke { turn, .. }) => *turn == 0,
+        Some(_) => true,
     }
 }
 

@@ -1,18 +1,20 @@
 //! What the refusal of a recovery may come from.
 ghost use Rattle.std.specs.Prelude.{◌≡◌, ◌∷◌, [], IfOk, None, Some, map, true};
+ghost use Rattle.aud_node.specs.Stream.{position};
 ghost use Rattle.aud_session_facts.specs.Recoveries.{stays_at};
 ghost use Rattle.aud_rows.specs.ClientPlaces.{AreOf};
 ghost use Rattle.aud_causes.specs.Found.{cause_seen, shown_causes};
-ghost use Rattle.aud_causes.specs.Refusals.{asked_causes, asked_too_early, broke_past, cursor_there, first_open, got_of, last_break, last_record, never_broken, node_ended, offset_cause, refusal_causes, refused_causes, session_over, stay_causes};
+ghost use Rattle.aud_causes.specs.Refusals.{asked_causes, asked_too_early, broke_past, cursor_there, first_open, got_of, last_break, last_record, never_broken, node_ended, offset_cause, refusal_causes, refused_causes, session_over, stay_causes, unknown_offset};
 ghost use Rattle.aud_causes.specs.TakenBack.{marks_before};
 
 use crate::cause::Cause;
 use crate::found::{CauseFound, shown_causes};
 use crate::last_turn::{is_broken, is_ended, last_begin, last_turn};
 use crate::list::held;
+use crate::named_entries::is_named;
 use crate::taken_back::marks_before;
 use aud_client::{Asked, Recording, Stay};
-use aud_node::{Logs, Stream};
+use aud_node::Logs;
 use aud_rows::{ClientPlaces, Sheet};
 use aud_session_facts::{Mark, RecordPlace, Recovery, TurnMark, turn_marks};
 use std::alloc::{AllocError, Global};
@@ -20,7 +22,8 @@ use std::alloc::{AllocError, Global};
 /// What the refusal of this recovery may come from: of the causes that it can have those that hold, in a fixed order.
 /// One is certain exactly where it is the only one. `tap` is that of the client. It costs the records that begin and end
 /// the turns of two sessions: of the one that was asked for, and of the one that the client got; and the stays of the
-/// client's tap.
+/// client's tap; where the stream doesn't have the offset that was asked with, the records of the nodes' logs that are out
+/// of order.
 pub fn causes_of_refusal<'r>(
     alloc: Global,
     sheet: &Sheet<'r, '_>,
@@ -118,7 +121,7 @@ fn asked_causes(
     let pid = asked.pid.as_str();
     let marks = turn_marks(alloc, logs, pid)?;
     let opening = turn_marks(alloc, logs, got)?;
-    let offset = offset_cause(logs.stream(), asked);
+    let offset = offset_cause(logs, asked);
     let early = asked_too_early(logs, &marks, &opening);
     let before = marks_before(&marks, stays, number, pid);
     refused_causes(alloc, logs, offset, early, before)
@@ -148,17 +151,24 @@ fn refused_causes(
     )
 }
 
-/// Where the client gave no offset, or one that the stream doesn't have.
-fn offset_cause(stream: &Stream<'_>, asked: &Asked) -> Option<Cause>
-    ensures { result ≡ offset_cause stream.now asked.now.offset }
+/// Where the client gave no offset, or one that neither the stream nor a node's log has.
+fn offset_cause(logs: &Logs<'_>, asked: &Asked) -> Option<Cause>
+    ensures { result ≡ offset_cause logs.now asked.now.offset }
 {
     let Some(off) = &asked.offset else {
         return Some(Cause::NoOffset { stay: 0 });
     };
-    match stream.position(off.as_str()) {
-        Some(_) => None,
-        None => Some(Cause::UnknownOffset { stay: 0 }),
+    unknown_offset(logs, off.as_str())
+}
+
+/// Where neither the stream nor a node's log has the entry of this offset.
+fn unknown_offset(logs: &Logs<'_>, off: &str) -> Option<Cause>
+    ensures { result ≡ unknown_offset logs.now off.now (position logs.now.stream off.now) }
+{
+    if logs.stream().position(off).is_some() || is_named(logs, off) {
+        return None;
     }
+    Some(Cause::UnknownOffset { stay: 0 })
 }
 
 /// Where a node recorded the session's end.

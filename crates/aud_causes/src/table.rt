@@ -64,9 +64,9 @@ pub(crate) fn row_of(cause: Cause) -> Row
         Cause::StaleOffset { stay, after } => Row {
             id: "stale-offset",
             records: One(Ask(stay)),
-            why: "The client asked to go on after entry #, and had later ones already.",
+            why: "The client asked to go on after entry #, and its tap has later ones.",
             figures: [Some(Number(after)), None, None],
-            todo: "store the offset with each event, before the event is worked on.",
+            todo: "store the offset with each event, before the event is worked on, and put the client's tap there.",
         },
         Cause::BodyCameTwice {
             first,
@@ -128,9 +128,9 @@ pub(crate) fn row_of(cause: Cause) -> Row
         Cause::SkippedInWindow { stay, after, low } => Row {
             id: "skipped-in-window",
             records: Two(Ask(stay), Reply(stay)),
-            why: "The entry is one of those to be sent again, after # up to #, and was left out.",
+            why: "The entry is one of those to be sent again, after # up to #, and no frame of it came.",
             figures: [Some(Number(after)), Some(Number(low)), None],
-            todo: "look at how the node reads the stream for the replay.",
+            todo: "look at how the node reads the stream for the replay, and at what stands between it and the client.",
         },
         Cause::LostLive { frame } => Row {
             id: "lost-live",
@@ -205,9 +205,9 @@ pub(crate) fn row_of(cause: Cause) -> Row
         Cause::BeforeBirth { begin, low } => Row {
             id: "before-birth",
             records: One(Node(begin)),
-            why: "# had taken the entry when it opened the session, with its cursor at #.",
+            why: "By its log # had taken the entry when it opened the session, with its cursor at #.",
             figures: [Some(Name(begin.node)), Some(Number(low)), None],
-            todo: "send a session nothing that the node took before it opened the session.",
+            todo: "send a session nothing that the node took before its `open`; see whether that, and `start`, are written in time.",
         },
         Cause::ExtraLive { frame } => Row {
             id: "extra-live",
@@ -255,7 +255,7 @@ pub(crate) fn row_of(cause: Cause) -> Row
             records: Four(Node(begin), Node(back), Ask(stay), Reply(stay)),
             why: "The client recovered the session after turn #, so that turn broke; no log has its break.",
             figures: [Some(Number(turn as u64)), None, None],
-            todo: "write a node's log unbuffered; look at the disk and at how logs are rotated.",
+            todo: "write a node's log unbuffered; see whether it ended there, or the node was restarted; look at the disk and at how logs are rotated.",
         },
         Cause::MissingBreak {
             turn,
@@ -267,7 +267,14 @@ pub(crate) fn row_of(cause: Cause) -> Row
             records: Two(Node(begin), Node(back)),
             why: "The next turn begins, so turn # broke; no log has its break.",
             figures: [Some(Number(turn as u64)), None, None],
-            todo: "write a node's log unbuffered; look at the disk and at how logs are rotated.",
+            todo: "write a node's log unbuffered; see whether it ended there, or the node was restarted; look at the disk and at how logs are rotated.",
+        },
+        Cause::MissingBack { turn, next } => Row {
+            id: "missing-back",
+            records: One(Node(next)),
+            why: "The session had turn #, by its `break` or a later turn; no log has its `back`.",
+            figures: [Some(Number(turn as u64)), None, None],
+            todo: "write a node's log from its start, unbuffered; look at whether one ended early, or lost lines.",
         },
         Cause::ClearedAfterBreak { broke, cleared } => Row {
             id: "cleared-after-break",

@@ -3,11 +3,11 @@ ghost use Rattle.std.specs.Prelude.{◌≡◌, ◌++◌, ◌<◌, IfOk, OnOk, So
 ghost use Rattle.std.specs.Option.{option_copied};
 ghost use Rattle.aud_causes.specs.Chain.{chain_causes};
 ghost use Rattle.aud_causes.specs.Private.Noting.{break_in, with_begin, with_break};
-ghost use Rattle.aud_causes.specs.Turns.{begins_of, begun_turn, breaks_of, broken_turn, count_with, ended_by, ended_turn, ends_of, missing_break, missing_breaks, missing_causes, is_untapped, not_tapped, recovery_after, turn_count, unbroken_at};
+ghost use Rattle.aud_causes.specs.Turns.{after_begin, begins_of, begun_turn, breaks_of, broken_turn, count_with, ended_by, ended_turn, ends_of, is_after_begin, is_past_turn, is_untapped, missing_back, missing_break, missing_breaks, missing_causes, not_tapped, recovery_after, turn_count, unbegun, unbroken_at};
 
 use crate::cause::Cause;
 use crate::cleared::push_cleared;
-use crate::last_turn::is_end;
+use crate::last_turn::{is_broken, is_end, is_turn};
 use crate::list::push_cause;
 use crate::logs::recoveries;
 use crate::twice::{is_as_often, opened_twice, push_twice};
@@ -62,11 +62,12 @@ fn missing_causes(
     came: &[usize],
 ) -> Result<Vec<Cause>, AllocError>
     ensures { IfOk result (λ found. found.items
-        ≡ missing_causes begins.now (breaks_of marks.now) ended.now came.now) }
+        ≡ missing_causes marks.now begins.now (breaks_of marks.now) ended.now came.now) }
 {
     let broken = breaks_of(alloc, marks)?;
     let mut found = Vec::new(alloc);
     push_cause(&mut found, not_tapped(begins, &broken))?;
+    push_cause(&mut found, missing_back(marks, begins))?;
     push_missing(&mut found, begins, &broken, ended, came)?;
     Ok(found)
 }
@@ -222,6 +223,61 @@ fn is_untapped(begin: Option<RecordPlace>, broken: Option<&bool>) -> bool
     match (begin, broken) {
         (None, Some(false)) => true,
         _ => false,
+    }
+}
+
+/// That the begin of the first turn that no log begins is missing, where these are the turns' begins.
+fn missing_back(marks: &[TurnMark], begins: &[Option<RecordPlace>]) -> Option<Cause>
+    ensures { result ≡ missing_back marks.now begins.now }
+{
+    let turn = unbegun(begins);
+    let broken = is_broken(marks, turn.saturating_sub(1));
+    Some(Cause::MissingBack {
+        turn,
+        next: after_begin(marks, turn, broken)?,
+    })
+}
+
+/// The first turn that no log begins, where these are the begins.
+fn unbegun(begins: &[Option<RecordPlace>]) -> usize
+    ensures { result ≡ unbegun 0 begins.now }
+{
+    for (turn, begin) in begins.iter().enumerate() {
+        if begin.is_none() {
+            return turn;
+        }
+    }
+    begins.len()
+}
+
+/// The first record that says that the session had this turn, where one breaks the turn before, or not.
+fn after_begin(marks: &[TurnMark], turn: usize, broken: bool) -> Option<RecordPlace>
+    ensures { result ≡ after_begin turn broken marks.now }
+{
+    for mark in marks {
+        if is_after_begin(turn, broken, mark.mark) {
+            return Some(mark.place);
+        }
+    }
+    None
+}
+
+/// Whether the record begins a later turn, or breaks this one, where one breaks the turn before.
+fn is_after_begin(turn: usize, broken: bool, mark: Mark) -> bool
+    ensures { result ≡ is_after_begin turn broken mark }
+{
+    if is_past_turn(turn, begun_turn(mark)) {
+        return true;
+    }
+    broken && is_turn(turn, broken_turn(mark))
+}
+
+fn is_past_turn(turn: usize, other: Option<u16>) -> bool
+    ensures { result ≡ is_past_turn turn other }
+{
+    match other {
+        Some(other) => turn < other as usize,
+        None => false,
     }
 }
 

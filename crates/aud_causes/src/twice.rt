@@ -1,9 +1,10 @@
 //! A turn for which two records take the session back.
-ghost use Rattle.std.specs.Prelude.{◌≡◌, ◌++◌, OnOk};
+ghost use Rattle.std.specs.Prelude.{◌≡◌, ◌++◌, OnOk, slice_get};
 ghost use Rattle.std.specs.Option.{option_copied};
-ghost use Rattle.aud_causes.specs.Twice.{back_turn, causes_of_twice, is_as_often, is_back, is_open, is_place, is_so, open_with, opened_after, opened_twice, recovered_twice, turn_not_stored, twice_at, twice_causes};
+ghost use Rattle.aud_causes.specs.Twice.{back_turn, causes_of_twice, begun_twice, is_as_often, is_back, is_open, is_place, is_so, is_written_again, mark_before, open_with, opened_after, opened_twice, recovered_twice, turn_not_stored, twice_at, twice_by, twice_causes};
 
 use crate::cause::Cause;
+use crate::last_turn::is_turn;
 use crate::list::push_cause;
 use aud_session_facts::{Mark, RecordPlace, TurnMark};
 use std::alloc::AllocError;
@@ -28,8 +29,8 @@ pub(crate) fn push_twice(
     ensures { OnOk result (found.new.items
         ≡ found.old.items ++ twice_causes begins.now ended.now as_often marks.now) }
 {
-    for mark in marks {
-        push_causes(found, ended, as_often, twice_at(begins, *mark))?;
+    for number in 0..marks.len() {
+        push_causes(found, ended, as_often, twice_at(begins, marks, number))?;
     }
     Ok(())
 }
@@ -48,20 +49,69 @@ fn is_back(mark: Mark) -> bool
     matches!(mark, Mark::Back { .. })
 }
 
-fn twice_at(begins: &[Option<RecordPlace>], mark: TurnMark) -> Option<Twice>
-    ensures { result ≡ twice_at begins.now mark }
+/// The turn for which the record with this number takes the session back, where another one is its first begin.
+fn twice_at(begins: &[Option<RecordPlace>], marks: &[TurnMark], number: usize) -> Option<Twice>
+    ensures { result ≡ twice_at begins.now marks.now number }
+{
+    twice_by(begins, mark_before(marks, number), *marks.get(number)?)
+}
+
+/// The record before the one with this number.
+fn mark_before(marks: &[TurnMark], number: usize) -> Option<TurnMark>
+    ensures { result ≡ mark_before marks.now number }
+{
+    if number == 0 {
+        return None;
+    }
+    marks.get(number - 1).copied()
+}
+
+/// The same of this record, and the one before it; none where that is this one, written twice.
+fn twice_by(
+    begins: &[Option<RecordPlace>],
+    before: Option<TurnMark>,
+    mark: TurnMark,
+) -> Option<Twice>
+    ensures { result ≡ twice_by begins.now before mark }
 {
     let turn = back_turn(mark.mark)? as usize;
+    if is_written_again(turn, mark.place, before) {
+        return None;
+    }
+    begun_twice(begins, turn, mark.place)
+}
+
+/// Whether the record at this place takes the session back for the turn, as the one before it in the same log does.
+fn is_written_again(turn: usize, place: RecordPlace, before: Option<TurnMark>) -> bool
+    ensures { result ≡ is_written_again turn place before }
+{
+    let Some(before) = before else {
+        return false;
+    };
+    if before.place.node != place.node {
+        return false;
+    }
+    is_turn(turn, back_turn(before.mark))
+}
+
+/// The turn, where another record than this is the first that begins it.
+fn begun_twice(
+    begins: &[Option<RecordPlace>],
+    turn: usize,
+    again: RecordPlace,
+) -> Option<Twice>
+    ensures { result ≡ begun_twice turn again (slice_get begins.now turn) }
+{
     let Some(Some(first)) = begins.get(turn) else {
         return None;
     };
-    if is_place(*first, mark.place) {
+    if is_place(*first, again) {
         return None;
     }
     Some(Twice {
         turn,
         first: *first,
-        again: mark.place,
+        again,
     })
 }
 

@@ -2,6 +2,7 @@
 use Rattle.std.proofs.Common.{◌≡◌, ◌&&◌, ℕ, Bool, true, false, List, [], ◌∷◌, Option, Some, None, cond, not, refl, slice_get}
 use Rattle.std.specs.Prelude.{is_none, is_some}
 use Rattle.std.specs.List.{list_all}
+use Rattle.aud_tap.specs.declared.records.ClientRec.{ClientRec}
 use Rattle.aud_node.specs.Cluster.{Cluster}
 use Rattle.aud_node.specs.Stream.{Text}
 use Rattle.aud_client.specs.Replies.{ReplySeen}
@@ -11,11 +12,11 @@ use Rattle.aud_cert.specs.declared.fault.Fault.TheVariants as fault
 use Rattle.aud_session_facts.specs.Opened.{opened_in}
 use Rattle.aud_session_facts.specs.Recoveries.{stays_at}
 use Rattle.aud_causes.specs.declared.cause.Cause.{Cause}
-use Rattle.aud_causes.specs.declared.cause.Cause.TheVariants.{NamespaceDiffers, OutAfterAnswer, ReplyWithoutPid, SecondConnect, SidDiffers, TapBeganLate}
+use Rattle.aud_causes.specs.declared.cause.Cause.TheVariants.{CutBeforeReply, NamespaceDiffers, OutAfterAnswer, ReplyMissing, ReplyWithoutPid, SecondConnect, SidDiffers, TapBeganLate}
 use Rattle.aud_causes.specs.Judged.{names_by, names_causes, orphan_at}
 use Rattle.aud_causes.specs.Names.{named_causes, namespace_differs, other_namespace, other_sid, sid_differs}
 use Rattle.aud_causes.specs.Differences.{cause_and}
-use Rattle.aud_causes.specs.Orphans.{answered_causes, before_causes, began_late, causes_of_before, is_asked_first, is_disconnect, last_of_stay, orphan_causes_of, out_after_answer, replied_causes, stay_before, unreplied_causes, without_reply}
+use Rattle.aud_causes.specs.Orphans.{answered_causes, before_causes, began_late, causes_of_before, is_asked_first, is_cut, is_disconnect, last_of_stay, may_be_cut, next_of_stay, orphan_causes_of, out_after_answer, replied_causes, reply_lost, stay_before, unreplied_causes, without_reply}
 use Rattle.aud_causes.proofs.Listed.Each.{OfSome, is_listed, of_and, of_held, of_if, of_map}
 
 -- ---- NAMES
@@ -47,9 +48,12 @@ list_if : (b : Bool) (causes : List Cause) → list_all in_orphan causes ≡ tru
 list_if true causes h = h
 list_if false causes h = refl
 
-without_listed : (number : ℕ) (asked : Option AskedSeen) (late : Bool) → OfSome in_orphan (without_reply number asked late)
-without_listed number (Some asked) late = refl
-without_listed number None late = of_if in_orphan late (TapBeganLate number) refl
+without_listed : (number : ℕ) (asked : Option AskedSeen) (next : Option ClientRec) (late : Bool) → OfSome in_orphan (without_reply number asked next late)
+without_listed number (Some asked) next late = of_if in_orphan (may_be_cut next) (CutBeforeReply number) refl
+without_listed number None next late = of_if in_orphan late (TapBeganLate number) refl
+
+lost_listed : (client : ℕ) (asked : Option AskedSeen) (next : Option ClientRec) → OfSome in_orphan (reply_lost client asked next)
+lost_listed client asked next = of_if in_orphan (is_some asked && not (is_cut next)) (ReplyMissing client) refl
 
 answered_listed : (number before : ℕ) (stay : StaySeen) (first : Bool) → list_all in_orphan (answered_causes number before stay first) ≡ true
 answered_listed number before stay first =
@@ -71,9 +75,13 @@ of_before_listed c client number (Some before) =
 unreplied_listed : (c : Cluster) (client number : ℕ) (stay : StaySeen) (before : Option ℕ) → list_all in_orphan (unreplied_causes c client number stay before) ≡ true
 unreplied_listed c client number stay before =
     let late = began_late c client number stay in
-    of_and in_orphan (without_reply number stay.asked late) (causes_of_before c client number before)
-    (without_listed number stay.asked late)
-    (of_before_listed c client number before)
+    let next = next_of_stay c client number in
+    let lost = reply_lost client stay.asked next in
+    of_and in_orphan (without_reply number stay.asked next late) (cause_and lost (causes_of_before c client number before))
+    (without_listed number stay.asked next late)
+    (of_and in_orphan lost (causes_of_before c client number before)
+    (lost_listed client stay.asked next)
+    (of_before_listed c client number before))
 
 replied_listed : (c : Cluster) (client number : ℕ) (stay : StaySeen) (reply : Option ReplySeen) → list_all in_orphan (replied_causes c client number stay reply) ≡ true
 replied_listed c client number stay None = unreplied_listed c client number stay (stay_before (stays_at c client) number stay)

@@ -53,7 +53,7 @@ module _ (s : Case) where
   finding_listed (finding.Content altered) =
       content_listed (offset_at s.c.stream altered.position) (frame_of s.c s.numbers altered.frame s.client) (entry s.c.stream altered.position) altered
   finding_listed (finding.Delivery difference) = difference_listed s difference
-  finding_listed (finding.Window window) = window_listed window.c s.c.stream s.stays s.due window
+  finding_listed (finding.Window window) = window_listed window.c s.c s.stays s.due window
 
   received_listed : (fault : Fault) (found : Option Finding) → IsFoundFor s.c.stream fault found → list_all (is_listed fault) (causes_found s (found_for fault found)) ≡ true
   received_listed fault found of =

@@ -1,5 +1,5 @@
 -- The causes of a fault for which a session has no certificate have names of that fault's list.
-use Rattle.std.proofs.Common.{◌≡◌, ℕ, suc, zero, Bool, true, List, [], ◌∷◌, Option, Some, None, option_map, ◌++◌, ◌||◌, length, nat_eq, nat_le, nat_lt, not, refl, slice_get}
+use Rattle.std.proofs.Common.{◌≡◌, ℕ, suc, zero, Bool, true, List, [], ◌∷◌, Option, Some, None, option_map, ◌++◌, ◌-◌, ◌||◌, length, nat_eq, nat_le, nat_lt, not, refl, slice_get}
 use Rattle.std.specs.Prelude.{option_to_list}
 use Rattle.std.specs.List.{list_all, list_any}
 use Rattle.aud_base.specs.Lists.{numbers_from}
@@ -19,7 +19,7 @@ use Rattle.aud_session_facts.specs.Marks.{turn_marks}
 use Rattle.aud_session_facts.specs.declared.marks.TurnMark.{TurnMark}
 use Rattle.aud_session_facts.specs.declared.place.RecordPlace.{RecordPlace}
 use Rattle.aud_causes.specs.declared.cause.Cause.{Cause}
-use Rattle.aud_causes.specs.declared.cause.Cause.TheVariants.{ClientTapHasNoPackets, EntriesSkippedByNode, EntryTakenAgain, MissingBreak, NoClientTap, NodeNotTapped, OpenedTwice, OpenNotRecorded, RecoveredTwice, ReplyMissing, TurnNotStored}
+use Rattle.aud_causes.specs.declared.cause.Cause.TheVariants.{ClientTapHasNoPackets, EntriesSkippedByNode, EntryTakenAgain, MissingBack, MissingBreak, NoClientTap, NodeNotTapped, OpenedTwice, OpenNotRecorded, RecoveredTwice, ReplyMissing, TurnNotStored}
 use Rattle.aud_causes.specs.declared.turns.Unbroken.{Unbroken}
 use Rattle.aud_causes.specs.declared.twice.Twice.{Twice}
 use Rattle.aud_causes.specs.Bare.{bare_from, first_bare, tap_without_packets}
@@ -27,8 +27,8 @@ use Rattle.aud_causes.specs.Chain.{chain_causes}
 use Rattle.aud_causes.specs.Cleared.{broke_by, cleared_after_break, cleared_at, cleared_by, cleared_in, cleared_on, first_cleared, place_on}
 use Rattle.aud_causes.specs.Logs.{first_cause, later_cause, order_cause, record_cause, recoveries, take_cause, taken_again, takes_cause, unknown}
 use Rattle.aud_causes.specs.Names.{client_causes, reply_missing, unnamed_from}
-use Rattle.aud_causes.specs.Recorded.{first_own, is_node, no_log_causes, open_missing, opened_by, order_causes}
-use Rattle.aud_causes.specs.Turns.{begins_of, breaks_of, ends_of, is_untapped, missing_break, missing_breaks, missing_by, missing_causes, not_tapped, recovery_after, turn_count, unbroken_at}
+use Rattle.aud_causes.specs.Recorded.{first_own, has_first_turn, is_node, no_log_causes, open_not_recorded, opener_not_tapped, order_causes}
+use Rattle.aud_causes.specs.Turns.{after_begin, begins_of, breaks_of, ends_of, is_broken, is_untapped, missing_back, missing_break, missing_breaks, missing_by, missing_causes, not_tapped, recovery_after, turn_count, unbegun, unbroken_at}
 use Rattle.aud_causes.specs.Differences.{cause_and}
 use Rattle.aud_causes.specs.Twice.{causes_of_twice, is_as_often, is_open, is_so, open_with, opened_after, opened_twice, recovered_twice, second_open, turn_not_stored, twice_at, twice_causes}
 use Rattle.aud_causes.proofs.Listed.Each.{OfSome, is_listed, of_and, of_both, of_choice, of_each, of_held, of_if, of_list, of_map, of_or, of_then}
@@ -39,13 +39,14 @@ use Rattle.aud_causes.proofs.Listed.Each.{OfSome, is_listed, of_and, of_both, of
 abbrev in_no_log : Cause → Bool
 in_no_log = is_listed fault.NoLog
 
-opened_listed : (c : Cluster) (first : Option RecordPlace) → list_all in_no_log (opened_by c first) ≡ true
-opened_listed c (Some first) = refl
-opened_listed c None =
-    of_held in_no_log (open_missing c ∷ Some (NodeNotTapped 0) ∷ []) (of_if in_no_log (list_any is_node c.taps) (OpenNotRecorded None) refl, (refl, tt))
+open_listed : (c : Cluster) (first : Option RecordPlace) → OfSome in_no_log (open_not_recorded c first)
+open_listed c (Some first) = refl
+open_listed c None = of_if in_no_log (list_any is_node c.taps) (OpenNotRecorded None) refl
 
 pub no_log_listed : (c : Cluster) (pid : Text) → list_all in_no_log (no_log_causes c pid) ≡ true
-no_log_listed c pid = opened_listed c (first_own c pid)
+no_log_listed c pid =
+    of_held in_no_log (open_not_recorded c (first_own c pid) ∷ opener_not_tapped c pid ∷ [])
+    (open_listed c (first_own c pid), (of_if in_no_log (not (has_first_turn c pid (own_places c pid))) (NodeNotTapped 0) refl, tt))
 
 -- ---- CHAIN
 
@@ -63,18 +64,22 @@ missing_break_listed : (turn : ℕ) (begin back : RecordPlace) (stay : Option �
 missing_break_listed turn begin back (Some stay) = refl
 missing_break_listed turn begin back None = refl
 
-missing_listed : (begins : List (Option RecordPlace)) (broken ended : List Bool) (came : List ℕ)
-    → list_all in_chain (missing_causes begins broken ended came) ≡ true
-missing_listed begins broken ended came =
-    of_both in_chain (option_to_list (not_tapped broken 0 begins)) (missing_breaks begins broken ended came)
+missing_listed : (marks : List TurnMark) (begins : List (Option RecordPlace)) (broken ended : List Bool) (came : List ℕ)
+    → list_all in_chain (missing_causes marks begins broken ended came) ≡ true
+missing_listed marks begins broken ended came =
+    let turn = unbegun 0 begins in
+    let back = option_to_list (missing_back marks begins) in
+    of_both in_chain (option_to_list (not_tapped broken 0 begins)) (back ++ missing_breaks begins broken ended came)
     (of_list in_chain (not_tapped broken 0 begins) (not_tapped_listed broken 0 begins))
+    (of_both in_chain back (missing_breaks begins broken ended came)
+    (of_list in_chain (missing_back marks begins) (of_map in_chain (MissingBack turn) (λ next. refl) (after_begin turn (is_broken marks (turn - 1)) marks)))
     (of_each in_chain (λ turn. option_to_list (missing_break begins broken ended came turn))
     (λ turn.
     of_list in_chain (missing_break begins broken ended came turn)
     (of_map in_chain (missing_by (length begins) came)
     (λ (u : Unbroken). missing_break_listed u.turn u.begin u.back (recovery_after (length begins) came u.turn))
     (unbroken_at begins broken ended turn)))
-    (numbers_from 0 (length begins)))
+    (numbers_from 0 (length begins))))
 
 cleared_by_listed : (broke place : RecordPlace) (r : Option NodeRec) → OfSome in_chain (cleared_by broke place r)
 cleared_by_listed broke place (Some (rec.Leave pid room)) = refl
@@ -124,16 +129,16 @@ pub chain_listed : (c : Cluster) (pid : Text) (marks : List TurnMark) (stays : L
 chain_listed c pid marks stays =
     let as_often = is_as_often marks (recoveries stays) in
     let twice = twice_causes (begins_of marks) (ends_of marks) as_often marks in
-    let missing = missing_causes (begins_of marks) (breaks_of marks) (ends_of marks) (recoveries stays) in
+    let missing = missing_causes marks (begins_of marks) (breaks_of marks) (ends_of marks) (recoveries stays) in
     let cleared = cleared_after_break c pid in
     of_both in_chain (missing ++ cleared ++ twice) (option_to_list (opened_twice marks))
     (of_both in_chain (missing ++ cleared) twice
     (of_both in_chain missing cleared
-    (missing_listed (begins_of marks) (breaks_of marks) (ends_of marks) (recoveries stays))
+    (missing_listed marks (begins_of marks) (breaks_of marks) (ends_of marks) (recoveries stays))
     (cleared_listed c pid (own_places c pid)))
-    (of_each in_chain (λ m. causes_of_twice (ends_of marks) as_often (twice_at (begins_of marks) m))
-    (λ m. twice_listed (ends_of marks) as_often (twice_at (begins_of marks) m))
-    marks))
+    (of_each in_chain (λ number. causes_of_twice (ends_of marks) as_often (twice_at (begins_of marks) marks number))
+    (λ number. twice_listed (ends_of marks) as_often (twice_at (begins_of marks) marks number))
+    (numbers_from 0 (length marks))))
     (of_list in_chain (opened_twice marks) (second_open_listed None marks))
 
 -- ---- ORDER

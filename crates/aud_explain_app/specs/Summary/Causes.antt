@@ -16,7 +16,7 @@ cause_names =
     ∷ codes "another-encoder" ∷ codes "attachments-reordered" ∷ codes "another-event" ∷ codes "altered"
     ∷ codes "log-ended-early" ∷ codes "late-leave" ∷ codes "before-birth" ∷ codes "extra-live"
     ∷ codes "join-missing" ∷ codes "leave-missing" ∷ codes "recovery-not-recorded" ∷ codes "missing-break"
-    ∷ codes "cleared-after-break" ∷ codes "turn-not-stored" ∷ codes "recovered-twice" ∷ codes "opened-twice"
+    ∷ codes "missing-back" ∷ codes "cleared-after-break" ∷ codes "turn-not-stored" ∷ codes "recovered-twice" ∷ codes "opened-twice"
     ∷ codes "node-not-tapped" ∷ codes "open-not-recorded" ∷ codes "no-start" ∷ codes "restarted-in-old-log"
     ∷ codes "entries-skipped-by-node" ∷ codes "entry-taken-again" ∷ codes "not-in-stream" ∷ codes "two-taps"
     ∷ codes "no-client-tap" ∷ codes "reply-missing" ∷ codes "client-tap-has-no-packets" ∷ codes "sid-differs"

@@ -13,7 +13,7 @@ pub struct CausesTold {
     pub others: usize,
 }
 
-static NAMES: [&str; 56] = [
+static NAMES: [&str; 57] = [
     "node-behind-break",
     "sent-again-after-replay",
     "replay-includes-offset",
@@ -42,6 +42,7 @@ static NAMES: [&str; 56] = [
     "leave-missing",
     "recovery-not-recorded",
     "missing-break",
+    "missing-back",
     "cleared-after-break",
     "turn-not-stored",
     "recovered-twice",

@@ -11,7 +11,7 @@ static FAULTS: [&str; 13] = [
     r#"explain --json --pid p1
 2 1 c1@1 e:a t1 lose x1 t2 r1@2
 -> Ok(SomeNo)
-*"causes":[{"id":"missing-break",*"of":"fault","of_line":null,"state":"certain","sure":true,*}],"class":*"fault":"CHAIN",*"refused":[],"refuted":["node-not-tapped","cleared-after-break","turn-not-stored","recovered-twice","opened-twice"],"tail":*"#,
+*"causes":[{"id":"missing-break",*"of":"fault","of_line":null,"state":"certain","sure":true,*}],"class":*"fault":"CHAIN",*"refused":[],"refuted":["node-not-tapped","missing-back","cleared-after-break","turn-not-stored","recovered-twice","opened-twice"],"tail":*"#,
     r#"explain --json --pid p1
 1 1 c1@1 e:a repeat t1
 -> Ok(SomeNo)
@@ -31,11 +31,11 @@ static FAULTS: [&str; 13] = [
     r#"explain --json --pid p2
 1 1 u1@1 e:a t1 f1 c1@1 e:b t1
 -> Ok(SomeNo)
-*"causes":[{"id":"tap-began-late",*"of":"fault","of_line":null,"state":"certain","sure":true,*}],"class":*"fault":"ORPHAN",*"refused":[],"refuted":["cut-before-reply","after-disconnect","out-after-answer","second-connect","reply-without-pid"],"tail":*"#,
+*"causes":[{"id":"tap-began-late",*"of":"fault","of_line":null,"state":"certain","sure":true,*}],"class":*"fault":"ORPHAN",*"refused":[],"refuted":["cut-before-reply","reply-missing","after-disconnect","out-after-answer","second-connect","reply-without-pid"],"tail":*"#,
     r#"explain --json --pid p1
 1 1 c1@1 e:hi alter1 t1
 -> Ok(SomeNo)
-*"causes":[{"id":"another-event",*"of":"fault","of_line":null,"state":"fits","sure":false,*},{"id":"altered",*"of":"fault","of_line":null,"state":"fits","sure":false,*}],"class":*"fault":"CONTENT",*"refused":[],"refuted":["another-encoder","attachments-reordered"],"tail":*"#,
+*"causes":[{"id":"altered",*"of":"fault","of_line":null,"state":"fits","sure":false,*},{"id":"another-event",*"of":"fault","of_line":null,"state":"fits","sure":false,*}],"class":*"fault":"CONTENT",*"refused":[],"refuted":["another-encoder","attachments-reordered"],"tail":*"#,
     r#"explain --json --pid p1
 1 1 c1@1 lose j1:r e:a:r t1
 -> Ok(SomeNo)
@@ -167,7 +167,7 @@ c1 {"k":"conn","c":2}
 c1 {"k":"out","t":"40{\"pid\":\"P\"}"}
 c1 {"k":"in","t":"40{\"sid\":\"s2\",\"pid\":\"Q\"}"}
 -> Ok(SomeNo)
-*"causes":[{"id":"no-offset","lines":[13],"of":"refused","of_line":13,"state":"certain","sure":true,*}],"class":*"refuted":["node-not-tapped","missing-break","cleared-after-break","turn-not-stored","recovered-twice","opened-twice"],"tail":*"#,
+*"causes":[{"id":"no-offset","lines":[13],"of":"refused","of_line":13,"state":"certain","sure":true,*}],"class":*"refuted":["node-not-tapped","missing-back","missing-break","cleared-after-break","turn-not-stored","recovered-twice","opened-twice"],"tail":*"#,
     // A session that is answered yes.
     r#"explain --json --pid P
 @YES

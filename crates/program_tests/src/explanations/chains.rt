@@ -89,13 +89,14 @@ client c1, namespace /, turns 2, delivery not judged
     client  16 reply  17 got 1  18 lost  20 asks after 1  21 got 2  22 reply
 cause missing-break (certain, lines 6 13 20 22): The client recovered the session after turn 0, so
         that turn broke; no log has its break.
-do: write a node's log unbuffered; look at the disk and at how logs are rotated.
+do: write a node's log unbuffered; see whether it ended there, or the node was restarted; look at
+        the disk and at how logs are rotated.
 
 sessions: *"#,
     r#"explain --json
 @NO_BREAK
 -> Ok(SomeNo)
-{"alike":[],"also":[],"also_left":0,"at_frame":null,"causes":[{"id":"missing-break","lines":[6,13,20,22],"of":"fault","of_line":null,"state":"certain","sure":true,"todo":"write a node's log unbuffered; look at the disk and at how logs are rotated.","why":"The client recovered the session after turn 0, so that turn broke; no log has its break."}],"class":"recording","client":"c1","conn":null,"due":null,"events":[{"after":null,"from":null,"happens":"reply","lines":[16,16],"to":null},{"after":null,"from":1,"happens":"got","lines":[17,17],"to":1},{"after":null,"from":null,"happens":"lost","lines":[18,18],"to":null},{"after":1,"from":null,"happens":"asks","lines":[20,20],"to":null},{"after":null,"from":2,"happens":"got","lines":[21,21],"to":2},{"after":null,"from":null,"happens":"reply","lines":[22,22],"to":null}],"events_left":0,"evidence":[{"file":null,"file_line":null,"line":6,"of":null,"role":"earlier","says":"open, sid s1, namespace /, cursor 0","tap":"a"},{"file":null,"file_line":null,"line":13,"of":null,"role":"fault","says":"back 1, cursor 2","tap":"b"}],"fault":"CHAIN","got":null,"nsp":"/","off":null,"pid":"P","refused":[],"refuted":["node-not-tapped","cleared-after-break","turn-not-stored","recovered-twice","opened-twice"],"tail":null,"turns":[{"begin":"open","end":"missing","high":null,"lines":[6],"low":0,"node":"a","took":null,"turn":0},{"begin":"back","end":"log","high":2,"lines":[13,13],"low":2,"node":"b","took":null,"turn":1}],"turns_left":0,"v":1,"verdict":"no"}
+{"alike":[],"also":[],"also_left":0,"at_frame":null,"causes":[{"id":"missing-break","lines":[6,13,20,22],"of":"fault","of_line":null,"state":"certain","sure":true,"todo":"write a node's log unbuffered; see whether it ended there, or the node was restarted; look at the disk and at how logs are rotated.","why":"The client recovered the session after turn 0, so that turn broke; no log has its break."}],"class":"recording","client":"c1","conn":null,"due":null,"events":[{"after":null,"from":null,"happens":"reply","lines":[16,16],"to":null},{"after":null,"from":1,"happens":"got","lines":[17,17],"to":1},{"after":null,"from":null,"happens":"lost","lines":[18,18],"to":null},{"after":1,"from":null,"happens":"asks","lines":[20,20],"to":null},{"after":null,"from":2,"happens":"got","lines":[21,21],"to":2},{"after":null,"from":null,"happens":"reply","lines":[22,22],"to":null}],"events_left":0,"evidence":[{"file":null,"file_line":null,"line":6,"of":null,"role":"earlier","says":"open, sid s1, namespace /, cursor 0","tap":"a"},{"file":null,"file_line":null,"line":13,"of":null,"role":"fault","says":"back 1, cursor 2","tap":"b"}],"fault":"CHAIN","got":null,"nsp":"/","off":null,"pid":"P","refused":[],"refuted":["node-not-tapped","missing-back","cleared-after-break","turn-not-stored","recovered-twice","opened-twice"],"tail":null,"turns":[{"begin":"open","end":"missing","high":null,"lines":[6],"low":0,"node":"a","took":null,"turn":0},{"begin":"back","end":"log","high":2,"lines":[13,13],"low":2,"node":"b","took":null,"turn":1}],"turns_left":0,"v":1,"verdict":"no"}
 {"summary":*"#,
     r#"explain
 @NO_SECOND_BREAK
@@ -133,11 +134,15 @@ client c1, namespace /, turns 3, delivery not judged
     turn 1  b  13 back, cursor 2 == 23 break, cursor 2
     turn 3  b  24 back, cursor 2 == 24 log ends, cursor 2
     client  16 reply  17 got 1  18 lost  20 asks after 1  21 got 2  22 reply
-cause node-not-tapped (holds): No node's log has the begin of turn 2.
+cause node-not-tapped (fits): No node's log has the begin of turn 2.
 do: tap each node, from its start.
+cause missing-back (fits, line 24): The session had turn 2, by its `break` or a later turn; no log
+        has its `back`.
+do: write a node's log from its start, unbuffered; look at whether one ended early, or lost lines.
 cause missing-break (holds, lines 6 13): The next turn begins, so turn 0 broke; no log has its
         break.
-do: write a node's log unbuffered; look at the disk and at how logs are rotated.
+do: write a node's log unbuffered; see whether it ended there, or the node was restarted; look at
+        the disk and at how logs are rotated.
 
 sessions: *"#,
     // Neither of its first two turns has a `break`.
@@ -162,10 +167,12 @@ client c1, namespace /, turns 3, delivery not judged
         27 reply
 cause missing-break (holds, lines 6 13 20 22): The client recovered the session after turn 0, so
         that turn broke; no log has its break.
-do: write a node's log unbuffered; look at the disk and at how logs are rotated.
+do: write a node's log unbuffered; see whether it ended there, or the node was restarted; look at
+        the disk and at how logs are rotated.
 cause missing-break (holds, lines 13 24 26 27): The client recovered the session after turn 1, so
         that turn broke; no log has its break.
-do: write a node's log unbuffered; look at the disk and at how logs are rotated.
+do: write a node's log unbuffered; see whether it ended there, or the node was restarted; look at
+        the disk and at how logs are rotated.
 
 sessions: 1, yes: 0, no: 1
   recording 1: CHAIN 1
@@ -212,7 +219,7 @@ sessions: *"#,
 @NODES
 b {"k":"open","pid":"P","sid":"s1","nsp":"/"}
 -> Ok(SomeNo)
-{"alike":[],"also":[],"also_left":0,"at_frame":null,"causes":[],"class":"recording","client":null,"conn":null,"due":null,"events":[],"events_left":0,"evidence":[{"file":"n.jsonl","file_line":4,"line":4,"of":null,"role":"earlier","says":"open, sid s1, namespace /, cursor 0","tap":"a"},{"file":"m.jsonl","file_line":1,"line":7,"of":null,"role":"fault","says":"open, sid s1, namespace /, cursor 0","tap":"b"}],"fault":"CHAIN","got":null,"nsp":null,"off":null,"pid":"P","refused":[],"refuted":["node-not-tapped","missing-break","cleared-after-break","turn-not-stored","recovered-twice","opened-twice"],"tail":null,"turns":[{"begin":"open","end":"log","high":0,"lines":[4,4],"low":0,"node":"a","took":null,"turn":0},{"begin":"open","end":"log","high":0,"lines":[7,7],"low":0,"node":"b","took":null,"turn":0}],"turns_left":0,"v":1,"verdict":"no"}
+{"alike":[],"also":[],"also_left":0,"at_frame":null,"causes":[],"class":"recording","client":null,"conn":null,"due":null,"events":[],"events_left":0,"evidence":[{"file":"n.jsonl","file_line":4,"line":4,"of":null,"role":"earlier","says":"open, sid s1, namespace /, cursor 0","tap":"a"},{"file":"m.jsonl","file_line":1,"line":7,"of":null,"role":"fault","says":"open, sid s1, namespace /, cursor 0","tap":"b"}],"fault":"CHAIN","got":null,"nsp":null,"off":null,"pid":"P","refused":[],"refuted":["node-not-tapped","missing-back","missing-break","cleared-after-break","turn-not-stored","recovered-twice","opened-twice"],"tail":null,"turns":[{"begin":"open","end":"log","high":0,"lines":[4,4],"low":0,"node":"a","took":null,"turn":0},{"begin":"open","end":"log","high":0,"lines":[7,7],"low":0,"node":"b","took":null,"turn":0}],"turns_left":0,"v":1,"verdict":"no"}
 {"summary":*"#,
     // The same, of a name with a backslash, an escape character, and one that turns the direction.
     "explain n\\\u{1b}[2J\u{202e} m.jsonl\n@NODES\nb {\"k\":\"open\",\"pid\":\"P\",\"sid\":\"s1\",\"nsp\":\"/\"}\n-> Ok(SomeNo)\nno P CHAIN [recording]\nno one client, turns 2, delivery not judged\n    line tap  record\n       4 a    open, sid s1, namespace /, cursor 0  earlier  (n\\\\\\x1b[2J\\u{202e}:4)\n       7 b    open, sid s1, namespace /, cursor 0  <- does not fit in the turns  (m.jsonl:1)\n*",
@@ -230,8 +237,11 @@ no one client, turns 2, delivery not judged
        8 b    back 2, cursor 0  <- does not fit in the turns
     turn 0  a  4 open, cursor 0 == 7 break, cursor 0
     turn 2  b  8 back, cursor 0 == 8 log ends, cursor 0
-cause node-not-tapped (certain): No node's log has the begin of turn 1.
+cause node-not-tapped (fits): No node's log has the begin of turn 1.
 do: tap each node, from its start.
+cause missing-back (fits, line 8): The session had turn 1, by its `break` or a later turn; no log
+        has its `back`.
+do: write a node's log from its start, unbuffered; look at whether one ended early, or lost lines.
 
 sessions: *"#,
     // It leaves a room after its break.

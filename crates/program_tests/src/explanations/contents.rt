@@ -91,12 +91,12 @@ sessions: *"#,
 c1 {"k":"in","t":"42[\"seen\",\"o2\"]"}
 -> Ok(SomeNo)
 no P CONTENT o2 [delivery]
-*cause another-event (fits, line 13): The event has another name, namespace or number of arguments
-        than its entry.
-do: let no event but those of the stream end in a text that is an offset.
-cause altered (fits, line 13): The event's text parts from its entry's at byte 4. It has
+*cause altered (fits, line 13): The event's text parts from its entry's at byte 4. It has
         2["seen","o2"], and the entry has 2["new",{"a/b":1,"name":"ca.. there.
 do: look at what stands between the node and the client.
+cause another-event (fits, line 13): The event has another name, namespace or number of arguments
+        than its entry.
+do: let no event but those of the stream end in a text that is an offset.
 
 sessions: *"#,
     // One of the same name, with fewer arguments.
@@ -104,7 +104,7 @@ sessions: *"#,
 @TEXTS
 c1 {"k":"in","t":"42[\"new\",\"o2\"]"}
 -> Ok(SomeNo)
-*"causes":[{"id":"another-event",*"state":"fits",*},{"id":"altered",*"state":"fits",*}],"class":*"refuted":["another-encoder","attachments-reordered"],"tail":*"#,
+*"causes":[{"id":"altered",*"state":"fits",*},{"id":"another-event",*"state":"fits",*}],"class":*"refuted":["another-encoder","attachments-reordered"],"tail":*"#,
     // The attachments are the entry's, and the text is written otherwise.
     r#"explain --json
 @ATTACHMENTS
@@ -112,7 +112,7 @@ c1 {"k":"in","t":"452-[\"up\",{\"num\":0,\"_placeholder\":true},{\"num\":1,\"_pl
 c1 {"k":"inb","b":"AQI="}
 c1 {"k":"inb","b":"Aw=="}
 -> Ok(SomeNo)
-*"causes":[{"id":"another-encoder",*"state":"certain",*}],"class":*"refuted":["attachments-reordered","another-event","altered"],"tail":*"#,
+*"causes":[{"id":"another-encoder",*"state":"certain",*}],"class":*"refuted":["attachments-reordered","altered","another-event"],"tail":*"#,
 ];
 
 #[test]

@@ -214,7 +214,7 @@ lines: 37, bytes: 1997, seconds: *
 @BEHIND
 -> Ok(SomeNo)
 {"alike":[],"also":[{"lines":[28,37],"position":3,"to":4}],"also_left":0,"at_frame":5,"causes":[{"id":"node-behind-break","lines":[13,17],"of":"fault","of_line":null,"state":"certain","sure":true,"todo":"let the restore wait until the cursor is at the break's, or drop what the client has.","why":"b took the session back with its cursor at 1; the break was at 4."}],"class":"delivery","client":"c1","conn":2,"due":4,"events":[{"after":null,"from":null,"happens":"reply","lines":[25,25],"to":null},{"after":null,"from":1,"happens":"got","lines":[26,29],"to":4},{"after":null,"from":null,"happens":"lost","lines":[30,30],"to":null},{"after":4,"from":null,"happens":"asks","lines":[33,33],"to":null},{"after":null,"from":null,"happens":"reply","lines":[34,34],"to":null},{"after":null,"from":2,"happens":"got","lines":[35,37],"to":4}],"events_left":0,"evidence":[{"file":null,"file_line":null,"line":13,"of":null,"role":"break","says":"break 0, cursor 4","tap":"a"},{"file":null,"file_line":null,"line":17,"of":null,"role":"back","says":"back 1, cursor 1","tap":"b"},{"file":null,"file_line":null,"line":3,"of":null,"role":"entry","says":"entry 2 1795330265183-0","tap":"st"},{"file":null,"file_line":null,"line":27,"of":null,"role":"earlier","says":"conn 1 got 2 1795330265183-0","tap":"c1"},{"file":null,"file_line":null,"line":33,"of":null,"role":"ask","says":"conn 2 asks l20Oco8Ltsjm-QpSAAAC after 1795330265185-1","tap":"c1"},{"file":null,"file_line":null,"line":35,"of":null,"role":"fault","says":"conn 2 got 2 1795330265183-0","tap":"c1"}],"fault":"DOUBLED","got":7,"nsp":"/","off":"1795330265183-0","pid":"l20Oco8Ltsjm-QpSAAAC","refused":[],"refuted":["sent-again-after-replay","replay-includes-offset","stale-offset","body-came-twice","doubled-in-replay","doubled-live","recovery-not-recorded"],"tail":null,"turns":[{"begin":"open","end":"break","high":4,"lines":[8,13],"low":0,"node":"a","took":[1,4],"turn":0},{"begin":"back","end":"log","high":4,"lines":[17,20],"low":1,"node":"b","took":[2,4],"turn":1}],"turns_left":0,"v":1,"verdict":"no"}
-{"summary":{"bytes":1997,"causes":{"after-disconnect":0,"altered":0,"another-encoder":0,"another-event":0,"asked-too-early":0,"attachments-reordered":0,"before-birth":0,"body-came-twice":0,"cleared-after-break":0,"client-tap-has-no-packets":0,"cut-before-reply":0,"doubled-in-replay":0,"doubled-live":0,"entries-skipped-by-node":0,"entry-taken-again":0,"extra-live":0,"frame-not-recorded":0,"join-missing":0,"late-leave":0,"leave-missing":0,"log-ended-early":0,"lost-live":0,"missing-break":0,"namespace-differs":0,"never-broken":0,"no-client-tap":0,"no-offset":0,"no-start":0,"node-behind-break":1,"node-ended-in-turn":0,"node-not-tapped":0,"not-a-packet":0,"not-in-stream":0,"offset-of-another-session":0,"open-not-recorded":0,"opened-twice":0,"out-after-answer":0,"recovered-twice":0,"recovery-not-recorded":0,"replay-includes-offset":0,"reply-missing":0,"reply-without-pid":0,"restarted-in-old-log":0,"rooms-at-break":0,"second-connect":0,"sent-again-after-replay":0,"session-over":0,"sid-differs":0,"skipped-in-window":0,"stale-offset":0,"swapped-in-replay":0,"swapped-live":0,"tap-began-late":0,"turn-not-stored":0,"two-taps":0,"unknown-offset":0},"class":{"delivery":1,"packets":0,"recording":0},"entries":{"all":4,"recoverable":4},"fault":{"CHAIN":0,"CLIENT":0,"CONTENT":0,"DOUBLED":1,"EXTRA":0,"FRAME":0,"LOST":0,"NAMES":0,"NOLOG":0,"ORDER":0,"ORPHAN":0,"SWAPPED":0,"TAIL":0,"WINDOW":0},"lines":37,"no":1,"no_known_cause":0,"recoveries":{"asked":1,"granted":1,"refused":0},"seconds":*,"sessions":1,"tail":{"events":0,"sessions":0},"unobserved":0,"yes":0},"v":1}
+{"summary":{"bytes":1997,"causes":{"after-disconnect":0,"altered":0,"another-encoder":0,"another-event":0,"asked-too-early":0,"attachments-reordered":0,"before-birth":0,"body-came-twice":0,"cleared-after-break":0,"client-tap-has-no-packets":0,"cut-before-reply":0,"doubled-in-replay":0,"doubled-live":0,"entries-skipped-by-node":0,"entry-taken-again":0,"extra-live":0,"frame-not-recorded":0,"join-missing":0,"late-leave":0,"leave-missing":0,"log-ended-early":0,"lost-live":0,"missing-back":0,"missing-break":0,"namespace-differs":0,"never-broken":0,"no-client-tap":0,"no-offset":0,"no-start":0,"node-behind-break":1,"node-ended-in-turn":0,"node-not-tapped":0,"not-a-packet":0,"not-in-stream":0,"offset-of-another-session":0,"open-not-recorded":0,"opened-twice":0,"out-after-answer":0,"recovered-twice":0,"recovery-not-recorded":0,"replay-includes-offset":0,"reply-missing":0,"reply-without-pid":0,"restarted-in-old-log":0,"rooms-at-break":0,"second-connect":0,"sent-again-after-replay":0,"session-over":0,"sid-differs":0,"skipped-in-window":0,"stale-offset":0,"swapped-in-replay":0,"swapped-live":0,"tap-began-late":0,"turn-not-stored":0,"two-taps":0,"unknown-offset":0},"class":{"delivery":1,"packets":0,"recording":0},"entries":{"all":4,"recoverable":4},"fault":{"CHAIN":0,"CLIENT":0,"CONTENT":0,"DOUBLED":1,"EXTRA":0,"FRAME":0,"LOST":0,"NAMES":0,"NOLOG":0,"ORDER":0,"ORPHAN":0,"SWAPPED":0,"TAIL":0,"WINDOW":0},"lines":37,"no":1,"no_known_cause":0,"recoveries":{"asked":1,"granted":1,"refused":0},"seconds":*,"sessions":1,"tail":{"events":0,"sessions":0},"unobserved":0,"yes":0},"v":1}
 "#,
     r#"explain
 @LEFT
@@ -234,8 +234,9 @@ cause rooms-at-break (fits, lines 35 37): Of the entries after 1 up to 3, exactl
         are for the rooms held at the break.
 do: join again after a recovery, or accept it: public adapters replay by the rooms at the break.
 cause skipped-in-window (fits, lines 35 37): The entry is one of those to be sent again, after 1 up
-        to 3, and was left out.
-do: look at how the node reads the stream for the replay.
+        to 3, and no frame of it came.
+do: look at how the node reads the stream for the replay, and at what stands between it and the
+        client.
 
 sessions: *"#,
     r#"explain
@@ -252,8 +253,9 @@ client c1, namespace /, connection 2, turns 2, got 2, due 3, differs at frame 2
     turn 1  b  16 back, cursor 3 == 16 log ends, cursor 3
     client  19 reply  20 got 1  21 lost  23 asks after 1  24 got 3  25 reply
 cause skipped-in-window (certain, lines 23 25): The entry is one of those to be sent again, after 1
-        up to 3, and was left out.
-do: look at how the node reads the stream for the replay.
+        up to 3, and no frame of it came.
+do: look at how the node reads the stream for the replay, and at what stands between it and the
+        client.
 
 sessions: *"#,
     // Which stay is of the third turn isn't known, so neither is what had to be sent again in it.
@@ -312,9 +314,10 @@ client c1, namespace /, connection 1, turns 1, got 1, due 1, differs at frame 1
       12 c1   conn 1 got 1 1-0  <- not due
     turn 0  a  6 open, cursor 1 == take 2 == 8 log ends, cursor 2
     client  11 reply  12 got 1
-cause before-birth (certain, line 6): a had taken the entry when it opened the session, with its
-        cursor at 1.
-do: send a session nothing that the node took before it opened the session.
+cause before-birth (certain, line 6): By its log a had taken the entry when it opened the session,
+        with its cursor at 1.
+do: send a session nothing that the node took before its `open`; see whether that, and `start`, are
+        written in time.
 
 sessions: *"#,
     r#"explain
@@ -327,12 +330,12 @@ client c1, namespace /, connection 1, turns 1, got 1, due 1
       11 c1   conn 1 got 1 1-0  <- not as the entry has it
     turn 0  a  5 open, cursor 0 == take 1 == 7 log ends, cursor 1
     client  10 reply  11 got 1
-cause another-event (fits, line 11): The event has another name, namespace or number of arguments
-        than its entry.
-do: let no event but those of the stream end in a text that is an offset.
 cause altered (fits, line 11): The event's text parts from its entry's at byte 4. It has
         2["v","1-0"], and the entry has 2["hi","1-0"] there.
 do: look at what stands between the node and the client.
+cause another-event (fits, line 11): The event has another name, namespace or number of arguments
+        than its entry.
+do: let no event but those of the stream end in a text that is an offset.
 
 sessions: *"#,
 ];

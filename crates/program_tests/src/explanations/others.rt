@@ -104,12 +104,12 @@ client c1, namespace /, connection 1, turns 1, got 7, due 7
     also entries 4-5, lines 5 20
     turn 0  a  11 open, cursor 0 == take 1-7 == 12 log ends, cursor 7
     client  15 reply  16-22 got 1-7
-cause another-event (fits, line 17): The event has another name, namespace or number of arguments
-        than its entry.
-do: let no event but those of the stream end in a text that is an offset.
 cause altered (fits, line 17): The event's text parts from its entry's at byte 4. It has
         2["n","o2"], and the entry has 2["m","o2"] there.
 do: look at what stands between the node and the client.
+cause another-event (fits, line 17): The event has another name, namespace or number of arguments
+        than its entry.
+do: let no event but those of the stream end in a text that is an offset.
 
 sessions: *"#,
     // Of the three frames of entry 7 the second is the entry. Entry 2 came twice so, and shows it.

@@ -217,9 +217,9 @@ client c1, namespace /, connection 2, turns 2, got 2, due 2
     turn 0  a  6 open, cursor 0 == take 1-2 == 9 break, cursor 2
     turn 1  a  10 back, cursor 2 == 10 log ends, cursor 2
     client  13 reply  14-15 got 1-2  17 asks after 1  18 reply
-cause stale-offset (certain, line 17): The client asked to go on after entry 1, and had later ones
-        already.
-do: store the offset with each event, before the event is worked on.
+cause stale-offset (certain, line 17): The client asked to go on after entry 1, and its tap has
+        later ones.
+do: store the offset with each event, before the event is worked on, and put the client's tap there.
 
 sessions: *"#,
     // It gets the last event again, which had come in a body of polling.
@@ -241,9 +241,9 @@ client c1, namespace /, connection 2, turns 2, got 3, due 2, differs at frame 3
     turn 0  a  6 open, cursor 0 == take 1-2 == 9 break, cursor 2
     turn 1  a  10 back, cursor 2 == 10 log ends, cursor 2
     client  13 reply  14-15 got 1-2  17 asks after 1  18 reply  18 got 2
-cause stale-offset (fits, line 17): The client asked to go on after entry 1, and had later ones
-        already.
-do: store the offset with each event, before the event is worked on.
+cause stale-offset (fits, line 17): The client asked to go on after entry 1, and its tap has later
+        ones.
+do: store the offset with each event, before the event is worked on, and put the client's tap there.
 cause body-came-twice (fits, lines 15 18): From this entry on, all that came before the recovery had
         come in one body of polling.
 do: see whether the client refused that body, for its packets are too many or too long.

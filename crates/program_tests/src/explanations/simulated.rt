@@ -37,7 +37,8 @@ client c1, namespace /, turns 2, delivery not judged
     client  9 reply  12 got 1  13 lost  16 asks after 1  18 reply
 cause missing-break (certain, lines 7 17 16 18): The client recovered the session after turn 0, so
         that turn broke; no log has its break.
-do: write a node's log unbuffered; look at the disk and at how logs are rotated.
+do: write a node's log unbuffered; see whether it ended there, or the node was restarted; look at
+        the disk and at how logs are rotated.
 
 sessions: *"#,
     // The `take` is written twice. 5 open, 6 conn, 7 reply, 8 entry 1, 9 and 10 take, 11 the frame.
@@ -167,12 +168,12 @@ client c1, namespace /, connection 1, turns 1, got 1, due 1
       10 c1   conn 1 got 1 1-0  <- not as the entry has it
     turn 0  n1  5 open, cursor 0 == take 1 == 9 log ends, cursor 1
     client  7 reply  10 got 1
-cause another-event (fits, line 10): The event has another name, namespace or number of arguments
-        than its entry.
-do: let no event but those of the stream end in a text that is an offset.
 cause altered (fits, line 10): The event's text parts from its entry's at byte 6. It has
         2["hix","1-0"], and the entry has 2["hi","1-0"] there.
 do: look at what stands between the node and the client.
+cause another-event (fits, line 10): The event has another name, namespace or number of arguments
+        than its entry.
+do: let no event but those of the stream end in a text that is an offset.
 
 sessions: *"#,
     // The `join` of the entry's room is lost. 5 open, 6 conn, 7 reply, 8 entry 1, 9 take, 10 the frame.
