@@ -116,21 +116,19 @@ pub(crate) const SIMULATE_ABOUT: &str = "Writes the bundle of a simulated cluste
 
 pub(crate) const SIMULATE_LINES: &str = "`sioaudit simulate --help` has its options.";
 
-pub(crate) const NOT_UNDERSTOOD: &str =
-    "these words are not understood\n\nFor more information, try '--help'.";
+pub(crate) const NOT_UNDERSTOOD: &str = "these words are not understood";
 
 /// Why a size of parts is refused.
 pub(crate) const BAD_SIZE: &str =
-    "a part's size is a whole number of bytes, or of K, M or G, as in 512M\n\nFor more information, try '--help'.";
+    "a part's size is a whole number of bytes, or of K, M or G, as in 512M";
 
 /// Why `TAIL` is refused.
-pub(crate) const TAIL_ALONE: &str =
-    "TAIL is named without --whole, which alone looks for it\n\nFor more information, try '--help'.";
+pub(crate) const TAIL_ALONE: &str = "TAIL is named without --whole, which alone looks for it";
 
 /// Why records are refused.
 pub(crate) const RECORD_NUMBERS: &str =
-    "--record has the name of a tap, and after it the numbers of records, as in --record a 3 4\n\nFor more information, try '--help'.";
+    "--record has the name of a tap, and after it the numbers of records, as in --record a 3 4";
 
 /// Why `-` is refused as a file of `split`.
 pub(crate) const STDIN_TWICE: &str =
-    "the files are read more than once, so none can be standard input\n\nFor more information, try '--help'.";
+    "the files are read more than once, so none can be standard input";

@@ -5,7 +5,7 @@ pub(crate) const HEAD: &str = r#"<!doctype html>
 <html lang="en">
 <head>
 <meta charset="utf-8">
-<meta http-equiv="Content-Security-Policy" content="default-src 'none'; script-src 'sha256-uumieUfmv/WxX4aqqfhx9dLyDKUmrYPymbshLGn9ANU='; style-src 'sha256-Sa/bcERnPpFmw+weoDfErq+OoKo9cuKjOXv+alQSW30='; base-uri 'none'; form-action 'none'; require-trusted-types-for 'script'; trusted-types 'none'">
+<meta http-equiv="Content-Security-Policy" content="default-src 'none'; script-src 'sha256-9oJImlL4lsZTKJ/+4qX8etX/aoWr/H7qWTZOvzRB0is='; style-src 'sha256-Sa/bcERnPpFmw+weoDfErq+OoKo9cuKjOXv+alQSW30='; base-uri 'none'; form-action 'none'; require-trusted-types-for 'script'; trusted-types 'none'">
 <meta name="viewport" content="width=device-width, initial-scale=1">
 <title>sioaudit report</title>
 <style>
@@ -247,9 +247,9 @@ const linkTo = pid => `#${encodeURIComponent(pid)}`;
 /** Of a long list those before and after what is left out. */
 const FIRST = 100;
 
-/** @template T @param {T[]} shown @param {number} left @param {(it: T) => Child} view */
-const listed = (shown, left, view) =>
-  [...shown.slice(0, FIRST).map(view), left > 0 ? h("li", {}, `.. ${grouped(left)} more ..`) : null, ...shown.slice(FIRST).map(view)];
+/** @template T @param {T[]} shown @param {number} left @param {(it: T) => Child} view @param {(words: string) => Child} [more] */
+const listed = (shown, left, view, more = it => h("li", {}, it)) =>
+  [...shown.slice(0, FIRST).map(it => view(it)), left > 0 ? more(`.. ${grouped(left)} more ..`) : null, ...shown.slice(FIRST).map(it => view(it))];
 
 /** @param {{from: number | null, to: number | null}[]} runs How many frames these are. */
 const framesOf = runs => runs.reduce((sum, { from, to }) => sum + (to ?? 0) - (from ?? 1) + 1, 0);
@@ -268,10 +268,10 @@ const ROW = { file: TEXT, file_line: COUNT, line: 0, of: TEXT, role: "", says: "
 const SESSION = {
   pid: "", verdict: "", fault: TEXT, class: TEXT, off: TEXT, client: TEXT, nsp: TEXT, conn: COUNT, got: COUNT, due: COUNT,
   tail: COUNT, at_frame: COUNT,
-  evidence: [ROW], also: [{ lines: [0], position: 0, to: 0 }], also_left: 0, alike: [""], causes: [{ id: "", lines: [0], of: "", of_line: COUNT, state: "", sure: false, todo: "", why: "" }],
+  evidence: [ROW], evidence_left: 0, also: [{ lines: [0], position: 0, to: 0 }], also_left: 0, alike: [""], causes: [{ id: "", lines: [0], of: "", of_line: COUNT, state: "", sure: false, todo: "", why: "" }], causes_left: 0,
   refuted: [""],
   events: [{ happens: "", lines: [0, 0], after: COUNT, from: COUNT, to: COUNT }], events_left: 0,
-  refused: [{ ask: ROW, reply: maybe(ROW), instead: TEXT, missed: maybe([{ off: "", position: 0 }]), missed_left: COUNT }],
+  refused: [{ ask: ROW, reply: maybe(ROW), instead: TEXT, missed: maybe([{ off: "", position: 0 }]), missed_left: COUNT }], refused_left: 0,
   turns: [{ turn: 0, node: "", begin: "", end: "", low: 0, high: COUNT, lines: [0], took: maybe([0, 0]) }], turns_left: 0,
 };
 const SUMMARY = {
@@ -967,15 +967,15 @@ function pictureOf(session, room, onLine) {
 
 // ---- A session in words
 
-/** @param {Session} session @param {Row[]} rows @param {string} name @param {(line: number) => void} choose */
-function rowsTable(session, rows, name, choose) {
+/** @param {Session} session @param {Row[]} rows @param {number} left @param {string} name @param {(line: number) => void} choose */
+function rowsTable(session, rows, left, name, choose) {
   const ofFiles = rows.some(it => it.file !== null);
   return h("div", { class: "wide" }, h("table", { "aria-label": name },
     h("thead", {}, h("tr", {}, ...["line", "tap", "record", "shown for", ...(ofFiles ? ["file"] : [])].map(it => h("th", {}, it)))),
-    h("tbody", {}, ...rows.map(row => h("tr", { "data-line": row.line, click: () => choose(row.line) },
+    h("tbody", {}, ...listed(rows, left, row => h("tr", { "data-line": row.line, click: () => choose(row.line) },
       h("td", { class: "number" }, String(row.line)), h("td", {}, code(row.tap)), h("td", {}, code(saysOf(row))),
       h("td", {}, row.role === "fault" ? h("b", {}, `\u2190 ${roleOf(session, row)}`) : roleOf(session, row)),
-      ofFiles ? h("td", {}, h("code", { class: "path" }, ...fileOf(row).split(/(?<=\/)/).flatMap(it => [it, h("wbr")]))) : null)))));
+      ofFiles ? h("td", {}, h("code", { class: "path" }, ...fileOf(row).split(/(?<=\/)/).flatMap(it => [it, h("wbr")]))) : null), it => h("tr", {}, h("td", {}, it))))));
 }
 
 /** @param {Session} session */
@@ -1008,7 +1008,7 @@ const refusedView = (session, { ask, reply, instead, missed, missed_left }, choo
   h("p", {}, `The client got ${instead === null ? "no session" : "session "}`, code(instead),
     `; missed: ${missed === null ? "not known" : counted(missed.length + (missed_left ?? 0), "event")}.`),
   h("ul", {}, ...listed(missed ?? [], missed_left ?? 0, ({ off, position }) => h("li", {}, `entry ${position} `, code(off)))),
-  rowsTable(session, reply === null ? [ask] : [ask, reply], "The ask and its reply", choose));
+  rowsTable(session, reply === null ? [ask] : [ask, reply], 0, "The ask and its reply", choose));
 
 /** @param {Session} session */
 const wordsView = ({ turns, turns_left, events, events_left }) => h("details", {}, h("summary", {}, "The turns and the client in words"), h("div", { class: "columns" },
@@ -1017,7 +1017,7 @@ const wordsView = ({ turns, turns_left, events, events_left }) => h("details", {
 
 /** @param {Session} session @param {number} room */
 function sessionView(session, room) {
-  const { pid, fault, off, evidence, also, also_left: left, alike, refused, causes, tail } = session;
+  const { pid, fault, off, evidence, evidence_left, also, also_left: left, alike, refused, refused_left, causes, causes_left, tail } = session;
   const view = h("section", { class: "session" });
   const onLine = (/** @type {number | null} */ line) => {
     for (const it of view.querySelectorAll("tr[data-line]")) it.setAttribute("aria-current", String(it.getAttribute("data-line") === `${line}`));
@@ -1031,12 +1031,12 @@ function sessionView(session, room) {
       : `${session.class}: ${faultOf(fault).means}.`),
     h("p", { class: "soft" }, accountOf(session)), pictureOf(session, room, onLine),
     h("div", { class: "columns" },
-      fault === null ? null : h("div", {}, h("h3", {}, "Evidence"), rowsTable(session, evidence, "Evidence", onRow),
+      fault === null ? null : h("div", {}, h("h3", {}, "Evidence"), rowsTable(session, evidence, evidence_left, "Evidence", onRow),
         others.length > 0 ? h("p", {}, `Also ${others.join(", ")}${more}.`) : null,
         alike.length > 0 ? h("p", {}, `The same of ${counted(alike.length, "more session")}: `, ...alike.slice(0, FIRST).map(it => h("span", {}, code(it), " ")),
           alike.length > FIRST ? `.. and ${grouped(alike.length - FIRST)} more` : null) : null),
-      refused.length === 0 ? null : h("div", {}, h("h3", {}, "Refused recoveries"), ...refused.map(it => refusedView(session, it, onRow))),
-      fault === null && refused.length === 0 ? null : h("div", {}, h("h3", {}, "Causes"), ...causes.map(causeView), refutedView(session),
+      refused.length === 0 ? null : h("div", {}, h("h3", {}, "Refused recoveries"), ...listed(refused, refused_left, it => refusedView(session, it, onRow), it => h("p", {}, it))),
+      fault === null && refused.length === 0 ? null : h("div", {}, h("h3", {}, "Causes"), ...listed(causes, causes_left, causeView, it => h("p", {}, it)), refutedView(session),
         causes.length + session.refuted.length === 0 ? "No causes are known." : null)),
     wordsView(session));
   return view;

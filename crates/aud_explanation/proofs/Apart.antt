@@ -1,11 +1,11 @@
 -- Texts as they are printed, character by character, and that no two are printed alike.
-use Rattle.std.proofs.Common.{◌≡◌, ℕ, ◌/◌, ◌%◌, ◌<◌, true, false, eqb, List, [], ◌∷◌, ◌++◌, length, length-append, get_or, drop, flat_map, chars, encode_utf8, encode_utf8_all, IsUtf8, refl, sym, ap, ◌∙◌, inl, inr, arith}
+use Rattle.std.proofs.Common.{◌≡◌, ℕ, ◌/◌, ◌%◌, ◌<◌, true, false, eqb, nat_lt, List, [], ◌∷◌, ◌++◌, length, length-append, get_or, drop, flat_map, chars, encode_utf8, encode_utf8_all, IsUtf8, refl, sym, ap, ◌∙◌, inl, inr, arith}
 use Rattle.std.specs.Char.{digit_char, digit_value, is_control}
 use Rattle.std.proofs.lemmas.Bool.{cases_Bool}
 use Rattle.std.proofs.lemmas.Bool.Decides.{nat_tests}
 use Rattle.std.proofs.lemmas.List.{nil_from_length}
 use Rattle.std.proofs.lemmas.Str.{char_from_byte, chars-nil, chars_past_char, digit_value-digit_char, encode_same, encodes-chars, length-encode, len_utf8_bounds}
-use Rattle.aud_explanation.specs.Printed.{PrintedApart, hex, is_format, json_printed, json_shown, printed, shown}
+use Rattle.aud_explanation.specs.Printed.{PrintedApart, hex, hex_16, hex_code, is_hidden, json_printed, json_shown, printed, shown}
 
 -- ---- one character after the other
 
@@ -32,24 +32,24 @@ json_step text rest c utf8 parts = rw (chars_past_char text rest c utf8 parts) r
 data Way (c : ℕ) : Type 0 where
   doubled : c ≡ 92 → shown c ≡ 92 ∷ 92 ∷ [] → Way c
   byte : c < 256 → shown c ≡ 92 ∷ 120 ∷ hex c → Way c
-  format : c < 65536 → shown c ≡ 92 ∷ 117 ∷ 123 ∷ (hex (c / 256) ++ hex (c % 256) ++ 125 ∷ []) → Way c
+  coded : c < 1114112 → shown c ≡ 92 ∷ 117 ∷ 123 ∷ (hex_code c ++ 125 ∷ []) → Way c
   plain : (c ≡ 92 → ⊥) → shown c ≡ encode_utf8 c → Way c
 
 -- a control character is a byte
 pub control_small : (c : ℕ) → is_control c ≡ true → c < 256
 control_small c is = grind (arith, nat_tests)
 
--- a format character has a code of 16 bits
-pub format_small : (c : ℕ) → is_format c ≡ true → c < 65536
-format_small c is = grind (arith, nat_tests)
+-- a hidden character has a code of less than 2^20
+pub hidden_small : (c : ℕ) → is_hidden c ≡ true → c < 1114112
+hidden_small c is = grind (arith, nat_tests)
 
 way_of : (c : ℕ) → Way c
 way_of c = elim (cases_Bool (eqb c 92)) [
   | inl same ↦ doubled (grind (arith, nat_tests)) (rw same refl)
   | inr other ↦ elim (cases_Bool (is_control c)) [
     | inl control ↦ byte (control_small c control) (rw (other, control) refl)
-    | inr seen ↦ elim (cases_Bool (is_format c)) [
-      | inl formats ↦ format (format_small c formats) (rw (other, seen, formats) refl)
+    | inr seen ↦ elim (cases_Bool (is_hidden c)) [
+      | inl hides ↦ coded (hidden_small c hides) (rw (other, seen, hides) refl)
       | inr stands ↦ plain (grind (arith, nat_tests)) (rw (other, seen, stands) refl)
     ]
   ]
@@ -89,7 +89,7 @@ first_doubled : (c d : ℕ) → c ≡ 92 → shown c ≡ 92 ∷ 92 ∷ [] → Fi
 first_doubled c d is way r t e = elim (way_of d) [
   | doubled other by ↦ (is ∙ sym other, ap (λ b. drop 2 b) (rw (way, by) at e))
   | byte small by ↦ absurd (apart 92 120 r (hex d ++ t) refl (rw (way, by) at e))
-  | format small by ↦ absurd (apart 92 117 r _ refl (rw (way, by) at e))
+  | coded small by ↦ absurd (apart 92 117 r _ refl (rw (way, by) at e))
   | plain other by ↦ absurd (not_escaped d t other (sym (ap (λ b. get_or b 0 0) (rw (way, by) at e))))
 ]
 
@@ -97,23 +97,51 @@ first_byte : (c d : ℕ) → c < 256 → shown c ≡ 92 ∷ 120 ∷ hex c → Fi
 first_byte c d small way r t e = elim (way_of d) [
   | doubled other by ↦ absurd (apart 120 92 (hex c ++ r) t refl (rw (way, by) at e))
   | byte less by ↦ hex_same c d r t small less (ap (λ b. drop 2 b) (rw (way, by) at e))
-  | format less by ↦ absurd (apart 120 117 (hex c ++ r) _ refl (rw (way, by) at e))
+  | coded less by ↦ absurd (apart 120 117 (hex c ++ r) _ refl (rw (way, by) at e))
   | plain other by ↦ absurd (not_escaped d t other (sym (ap (λ b. get_or b 0 0) (rw (way, by) at e))))
 ]
 
--- the escapes of two format characters
-same_format : (c d : ℕ) (r t : List ℕ) → c < 65536 → d < 65536
-    → (hex (c / 256) ++ hex (c % 256) ++ 125 ∷ []) ++ r ≡ (hex (d / 256) ++ hex (d % 256) ++ 125 ∷ []) ++ t → (c ≡ d) × (r ≡ t)
-same_format c d r t hc hd e =
-    let high = hex_same (c / 256) (d / 256) _ _ (omega (arith, hc)) (omega (arith, hd)) e in
-    let low = hex_same (c % 256) (d % 256) _ _ (omega arith) (omega arith) high.1 in
-    (omega (arith, high.0, low.0), ap (λ b. drop 1 b) low.1)
+-- four digits
+hex_16_same : (a b : ℕ) (r t : List ℕ) → a < 65536 → b < 65536 → hex_16 a ++ r ≡ hex_16 b ++ t → (a ≡ b) × (r ≡ t)
+hex_16_same a b r t ha hb e =
+    let high = hex_same (a / 256) (b / 256) (hex (a % 256) ++ r) (hex (b % 256) ++ t) (omega (arith, ha)) (omega (arith, hb)) e in
+    let low = hex_same (a % 256) (b % 256) r t (omega arith) (omega arith) high.1 in
+    (omega (arith, high.0, low.0), low.1)
 
-first_format : (c d : ℕ) → c < 65536 → shown c ≡ 92 ∷ 117 ∷ 123 ∷ (hex (c / 256) ++ hex (c % 256) ++ 125 ∷ []) → First c d
-first_format c d small way r t e = elim (way_of d) [
+-- no digit is a brace
+no_brace : (n : ℕ) → n < 16 → 125 ≡ digit_char n → ⊥
+no_brace n small e =
+    let v : n ≡ 36 = sym (digit_value-digit_char n (omega (arith, small))) ∙ ap digit_value (sym e) in
+    omega (arith, v, small)
+
+-- four digits and a brace are not the front of six
+not_longer : (c d : ℕ) (r t : List ℕ) → hex_16 c ++ 125 ∷ r ≡ hex (d / 65536) ++ hex_16 (d % 65536) ++ 125 ∷ t → ⊥
+not_longer c d r t e = no_brace (d % 65536 % 256 / 16) (omega arith) (ap (λ x. get_or x 4 0) e)
+
+-- the escapes of two hidden characters
+same_code : (c d : ℕ) (r t : List ℕ) → c < 1114112 → d < 1114112
+    → (hex_code c ++ 125 ∷ []) ++ r ≡ (hex_code d ++ 125 ∷ []) ++ t → (c ≡ d) × (r ≡ t)
+same_code c d r t hc hd e = elim (cases_Bool (nat_lt c 65536)) [
+  | inl short ↦ elim (cases_Bool (nat_lt d 65536)) [
+    | inl less ↦
+        let both = hex_16_same c d (125 ∷ r) (125 ∷ t) (grind (arith, nat_tests)) (grind (arith, nat_tests)) (rw (short, less) at e) in
+        (both.0, ap (λ b. drop 1 b) both.1)
+    | inr more ↦ absurd (not_longer c d r t (rw (short, more) at e))
+  ]
+  | inr long ↦ elim (cases_Bool (nat_lt d 65536)) [
+    | inl less ↦ absurd (not_longer d c t r (sym (rw (long, less) at e)))
+    | inr more ↦
+        let high = hex_same (c / 65536) (d / 65536) (hex_16 (c % 65536) ++ 125 ∷ r) (hex_16 (d % 65536) ++ 125 ∷ t) (omega (arith, hc)) (omega (arith, hd)) (rw (long, more) at e) in
+        let low = hex_16_same (c % 65536) (d % 65536) (125 ∷ r) (125 ∷ t) (omega arith) (omega arith) high.1 in
+        (omega (arith, high.0, low.0), ap (λ b. drop 1 b) low.1)
+  ]
+]
+
+first_coded : (c d : ℕ) → c < 1114112 → shown c ≡ 92 ∷ 117 ∷ 123 ∷ (hex_code c ++ 125 ∷ []) → First c d
+first_coded c d small way r t e = elim (way_of d) [
   | doubled other by ↦ absurd (apart 117 92 _ t refl (rw (way, by) at e))
   | byte less by ↦ absurd (apart 117 120 _ (hex d ++ t) refl (rw (way, by) at e))
-  | format less by ↦ same_format c d r t small less (ap (λ b. drop 3 b) (rw (way, by) at e))
+  | coded less by ↦ same_code c d r t small less (ap (λ b. drop 3 b) (rw (way, by) at e))
   | plain other by ↦ absurd (not_escaped d t other (sym (ap (λ b. get_or b 0 0) (rw (way, by) at e))))
 ]
 
@@ -121,7 +149,7 @@ first_plain : (c d : ℕ) → (c ≡ 92 → ⊥) → shown c ≡ encode_utf8 c �
 first_plain c d own way r t e = elim (way_of d) [
   | doubled other by ↦ absurd (not_escaped c r own (ap (λ b. get_or b 0 0) (rw (way, by) at e)))
   | byte less by ↦ absurd (not_escaped c r own (ap (λ b. get_or b 0 0) (rw (way, by) at e)))
-  | format less by ↦ absurd (not_escaped c r own (ap (λ b. get_or b 0 0) (rw (way, by) at e)))
+  | coded less by ↦ absurd (not_escaped c r own (ap (λ b. get_or b 0 0) (rw (way, by) at e)))
   | plain other by ↦ encode_same c d r t (rw (way, by) at e)
 ]
 
@@ -129,7 +157,7 @@ first_same : (c d : ℕ) → First c d
 first_same c d = elim (way_of c) [
   | doubled is way ↦ first_doubled c d is way
   | byte small way ↦ first_byte c d small way
-  | format small way ↦ first_format c d small way
+  | coded small way ↦ first_coded c d small way
   | plain other way ↦ first_plain c d other way
 ]
 
@@ -138,7 +166,7 @@ shown_some : (c : ℕ) (r : List ℕ) → shown c ++ r ≡ [] → ⊥
 shown_some c r e = elim (way_of c) [
   | doubled is way ↦ cc
   | byte small way ↦ cc
-  | format small way ↦ cc
+  | coded small way ↦ cc
   | plain other way ↦
       let none : length (encode_utf8 c ++ r) ≡ 0 = ap length (rw way at e) in
       omega (arith, none, length-append (encode_utf8 c) r, length-encode c, (len_utf8_bounds c).0)

@@ -35,6 +35,8 @@ use Rattle.aud_explanation.specs.Long.{all_shown, left_out}
 use Rattle.aud_explanation.specs.JsonVerdict.{verdict_word, fault_data, off_data, class_data, with_fault, with_verdict}
 use Rattle.aud_explanation.specs.JsonAccount.{with_names, with_client, with_counts, with_account}
 use Rattle.aud_explanation.specs.Place.{with_place}
+use Rattle.aud_explanation.specs.declared.name.Names.TheVariants.{Whole}
+use Rattle.aud_explanation.specs.LongRows.{rows_left, rows_shown}
 use Rattle.aud_explanation.specs.Record.{record_text, other_session}
 use Rattle.aud_explanation.specs.JsonRow.{role_word, with_row, row_data, with_evidence}
 use Rattle.aud_explanation.specs.JsonTurn.{high_at, lines_data, took_data, turn_data, with_turns}
@@ -149,8 +151,8 @@ row-plain files pid row =
     let other : Option (List ℕ) = other_session pid row.session in
     let m3 : Members = put (codes "of") (text_or_null other) m2 in
     let m4 : Members = put (codes "role") (string (role_word row.role)) m3 in
-    let m5 : Members = put (codes "says") (string (record_text row.says)) m4 in
-    put-plain (codes "tap") (string row.tap.now) m5 (refl) (put-plain (codes "says") (string (record_text row.says)) m4 (refl) (put-plain (codes "role") (string (role_word row.role)) m3 (refl) (put-plain (codes "of") (text_or_null other) m2 (text-plain other) (put-plain (codes "line") (whole row.line) m1 (refl) (place-plain (place_told files row.line))))))
+    let m5 : Members = put (codes "says") (string (record_text Whole row.says)) m4 in
+    put-plain (codes "tap") (string row.tap.now) m5 (refl) (put-plain (codes "says") (string (record_text Whole row.says)) m4 (refl) (put-plain (codes "role") (string (role_word row.role)) m3 (refl) (put-plain (codes "of") (text_or_null other) m2 (text-plain other) (put-plain (codes "line") (whole row.line) m1 (refl) (place-plain (place_told files row.line))))))
 
 lines-plain : (begin : ℕ) (end : TurnEnd) → has_float (lines_data begin end) ≡ false
 lines-plain begin (end.Break line high) = refl
@@ -220,7 +222,9 @@ turns-plain turns ms rest =
 
 evidence-plain : (files : List InputFile) (pid : List ℕ) (rows : List Row) (ms : Members) → members_have_float ms ≡ false → members_have_float (with_evidence files pid rows ms) ≡ false
 unfolding with_evidence
-evidence-plain files pid rows ms rest = put-plain (codes "evidence") (array (items (row_data files pid) rows)) ms (items-plain (row_data files pid) (row-plain files pid) rows) rest
+evidence-plain files pid rows ms rest =
+    let m1 : Members = put (codes "evidence") (array (items (row_data files pid) (rows_shown rows))) ms in
+    put-plain (codes "evidence_left") (whole (rows_left rows)) m1 refl (put-plain (codes "evidence") (array (items (row_data files pid) (rows_shown rows))) ms (items-plain (row_data files pid) (row-plain files pid) (rows_shown rows)) rest)
 
 others-plain : (others : List Also) (left : ℕ) (ms : Members) → members_have_float ms ≡ false → members_have_float (with_also others left ms) ≡ false
 unfolding with_also
@@ -230,7 +234,9 @@ others-plain others left ms rest =
 
 recoveries-plain : (files : List InputFile) (pid : List ℕ) (recoveries : List RefusedRecovery) (ms : Members) → members_have_float ms ≡ false → members_have_float (with_refused files pid recoveries ms) ≡ false
 unfolding with_refused
-recoveries-plain files pid recoveries ms rest = put-plain (codes "refused") (array (items (refused_data files pid) recoveries)) ms (items-plain (refused_data files pid) (refused-plain files pid) recoveries) rest
+recoveries-plain files pid recoveries ms rest =
+    let m1 : Members = put (codes "refused") (array (items (refused_data files pid) (all_shown recoveries))) ms in
+    put-plain (codes "refused_left") (whole (left_out recoveries)) m1 refl (put-plain (codes "refused") (array (items (refused_data files pid) (all_shown recoveries))) ms (items-plain (refused_data files pid) (refused-plain files pid) (all_shown recoveries)) rest)
 
 events-plain : (events : List ClientEvent) (ms : Members) → members_have_float ms ≡ false → members_have_float (with_events events ms) ≡ false
 unfolding with_events
@@ -241,8 +247,9 @@ events-plain events ms rest =
 causes-plain : (causes : List Cause) (refuted : List (Bor (List ℕ))) (ms : Members) → members_have_float ms ≡ false → members_have_float (with_causes causes refuted ms) ≡ false
 unfolding with_causes
 causes-plain causes refuted ms rest =
-    let m1 : Members = put (codes "causes") (array (items cause_data causes)) ms in
-    put-plain (codes "refuted") (array (items text_data refuted)) m1 (items-plain text_data (λ text. refl) refuted) (put-plain (codes "causes") (array (items cause_data causes)) ms (items-plain cause_data cause-plain causes) rest)
+    let m1 : Members = put (codes "causes") (array (items cause_data (all_shown causes))) ms in
+    let m2 : Members = put (codes "causes_left") (whole (left_out causes)) m1 in
+    put-plain (codes "refuted") (array (items text_data refuted)) m2 (items-plain text_data (λ text. refl) refuted) (put-plain (codes "causes_left") (whole (left_out causes)) m1 refl (put-plain (codes "causes") (array (items cause_data (all_shown causes))) ms (items-plain cause_data cause-plain (all_shown causes)) rest))
 
 alike-plain : (pids : List (Bor (List ℕ))) (ms : Members) → members_have_float ms ≡ false → members_have_float (with_alike pids ms) ≡ false
 unfolding with_alike

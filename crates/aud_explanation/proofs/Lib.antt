@@ -4,4 +4,5 @@ pub mod Pieces
 pub mod JsonLists
 pub mod JsonPlain
 pub mod Laid
+pub mod NamedApart
 pub mod PlainFront

@@ -9,7 +9,7 @@ use Rattle.std.proofs.lemmas.Bool.Decides.{nat_tests}
 use Rattle.std.proofs.lemmas.List.Folds.{list_all-append}
 use Rattle.aud_explanation.specs.Page.{columns, fits, word_fits, ends_line, laid, next_line}
 use Rattle.aud_explanation.specs.Private.Front.{is_plain, ends_word, stays_together}
-use Rattle.aud_explanation.specs.Printed.{is_format, shown}
+use Rattle.aud_explanation.specs.Printed.{is_hidden, shown}
 
 -- ---- a plain character
 
@@ -23,14 +23,14 @@ not_escape c plain = grind (arith, nat_tests)
 not_control : (c : ℕ) → is_plain c ≡ true → is_control c ≡ false
 not_control c plain = grind (arith, nat_tests)
 
-not_format : (c : ℕ) → is_plain c ≡ true → is_format c ≡ false
-not_format c plain = grind (arith, nat_tests)
+not_hidden : (c : ℕ) → is_plain c ≡ true → is_hidden c ≡ false
+not_hidden c plain = grind (arith, nat_tests)
 
 plain-columns : (c : ℕ) → is_plain c ≡ true → columns c ≡ 1
-plain-columns c plain = rw (not_escape c plain, not_control c plain, not_format c plain) refl
+plain-columns c plain = rw (not_escape c plain, not_control c plain, not_hidden c plain) refl
 
 plain-shown : (c : ℕ) → is_plain c ≡ true → shown c ≡ c ∷ []
-plain-shown c plain = rw (not_escape c plain, not_control c plain, not_format c plain) (encode_ascii c (plain-small c plain))
+plain-shown c plain = rw (not_escape c plain, not_control c plain, not_hidden c plain) (encode_ascii c (plain-small c plain))
 
 -- ---- several of them
 

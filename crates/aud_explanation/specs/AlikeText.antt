@@ -1,6 +1,8 @@
 -- The other sessions with the same fault at the same record.
 use Rattle.std.specs.Prelude.{ℕ, List, [], ◌∷◌, ◌++◌, codes, decimal, flat_map, length}
 use Rattle.std.specs.Borrow.{Bor}
+use Rattle.aud_explanation.specs.declared.name.Names.TheVariants.{Short}
+use Rattle.aud_explanation.specs.Named.{name_words}
 use Rattle.aud_explanation.specs.Page.{laid_line}
 
 -- the words that come first
@@ -18,7 +20,7 @@ alike_count pids = the_same ++ decimal (length pids) ++ sessions_word pids
 
 -- a pid after a blank
 abbrev pub pid_listed : Bor (List ℕ) → List ℕ
-pid_listed pid = codes " " ++ pid.now
+pid_listed pid = codes " " ++ name_words Short pid.now
 
 -- how many there are, and their pids: `the same of 2 more sessions: P2 P3`
 abbrev pub alike_line : List (Bor (List ℕ)) → List ℕ

@@ -1,11 +1,14 @@
 -- The causes.
-use Rattle.std.specs.Prelude.{ℕ, Bool, true, false, not, List, [], ◌∷◌, ◌++◌, codes, decimal, flat_map, Some, None}
+use Rattle.std.specs.Prelude.{ℕ, Bool, true, false, not, ◌&&◌, List, [], ◌∷◌, ◌++◌, codes, decimal, flat_map, Some, None}
 use Rattle.std.specs.Borrow.{Bor}
 use Rattle.std.specs.List.{list_any}
 use Rattle.aud_explanation.specs.declared.cause.Cause.{Cause}
 use Rattle.aud_explanation.specs.declared.cause.CauseOf.{CauseOf}
 use Rattle.aud_explanation.specs.declared.cause.CauseOf.TheVariants.{Fault, Refused}
+use Rattle.aud_explanation.specs.declared.cause.CauseState.{CauseState}
+use Rattle.aud_explanation.specs.declared.cause.CauseState.TheVariants.{Fits}
 use Rattle.aud_explanation.specs.CauseState.{state_word}
+use Rattle.aud_explanation.specs.Long.{first_shown, last_shown, left_out, more_line}
 use Rattle.aud_explanation.specs.Page.{laid_line}
 use Rattle.aud_explanation.specs.Span.{lines_listed}
 
@@ -20,19 +23,24 @@ of_words Fault = []
 of_words (Refused None) = codes ", of the ask"
 of_words (Refused (Some line)) = codes ", of the ask on line " ++ decimal line
 
+-- how it stands; where no other cause of the fault is known, and so none was ruled out, that it is the one
+abbrev pub stands_words : Bool → CauseOf → CauseState → List ℕ
+stands_words true Fault Fits = codes "the one cause known"
+stands_words sole of state = state_word state
+
 -- what happened
-abbrev pub cause_line : Cause → List ℕ
-cause_line c = codes "cause " ++ c.id.now ++ codes " (" ++ state_word c.state ++ lines_words c.lines.now ++ of_words c.of ++ codes "): " ++ c.why.now
+abbrev pub cause_line : Bool → Cause → List ℕ
+cause_line sole c = codes "cause " ++ c.id.now ++ codes " (" ++ stands_words sole c.of c.state ++ lines_words c.lines.now ++ of_words c.of ++ codes "): " ++ c.why.now
 
 -- what to do
 abbrev pub todo_line : List ℕ → List ℕ
 todo_line todo = codes "do: " ++ todo
 
 -- both, a line each
-abbrev pub cause_text : Cause → List ℕ
-cause_text c = laid_line (cause_line c) ++ laid_line (todo_line c.todo.now)
+abbrev pub cause_text : Bool → Cause → List ℕ
+cause_text sole c = laid_line (cause_line sole c) ++ laid_line (todo_line c.todo.now)
 
--- ---- where none holds
+-- ---- where none holds, and where one alone is known
 
 -- a cause of the fault
 abbrev pub is_of_fault : CauseOf → Bool
@@ -53,10 +61,19 @@ abbrev pub none_text : Bool → List ℕ
 none_text true = codes "no known cause of the fault holds\n"
 none_text false = []
 
--- all causes
-abbrev pub each_text : List Cause → List ℕ
-each_text causes = flat_map cause_text causes
+-- of the fault one cause alone is known: none was refuted, and of these, among which those of the fault come first, one is
+abbrev pub is_sole : List (Bor (List ℕ)) → List Cause → Bool
+is_sole [] (c ∷ causes) = is_of_fault c.of && not (has_own causes)
+is_sole refuted causes = false
+
+-- these causes
+abbrev pub each_text : Bool → List Cause → List ℕ
+each_text sole causes = flat_map (cause_text sole) causes
+
+-- those that are shown, and a line that says how many are left out
+abbrev pub shown_text : Bool → List Cause → List ℕ
+shown_text sole causes = each_text sole (first_shown causes) ++ more_line (left_out causes) ++ each_text sole (last_shown causes)
 
 -- and before them that none of the fault holds, where it is so
 abbrev pub causes_text : List (Bor (List ℕ)) → List Cause → List ℕ
-causes_text refuted causes = none_text (none_holds refuted causes) ++ each_text causes
+causes_text refuted causes = none_text (none_holds refuted causes) ++ shown_text (is_sole refuted causes) causes

@@ -3,6 +3,8 @@ use Rattle.std.specs.Prelude.{ℕ, List, [], ◌++◌, codes, decimal, Option, S
 use Rattle.aud_verdict.specs.declared.verdict.Verdict.{Verdict}
 use Rattle.aud_explanation.specs.declared.client.Client.{Client}
 use Rattle.aud_explanation.specs.declared.client.Account.{Account}
+use Rattle.aud_explanation.specs.declared.name.Names.TheVariants.{Short}
+use Rattle.aud_explanation.specs.Named.{name_words}
 use Rattle.aud_explanation.specs.Page.{laid_line}
 use Rattle.aud_explanation.specs.ShownTail.{shown_tail}
 
@@ -13,7 +15,7 @@ conn_words None = []
 
 -- its tap, the namespace, and the connection
 abbrev pub names_words : Client → List ℕ
-names_words client = codes "client " ++ client.tap.now ++ codes ", namespace " ++ client.nsp.now ++ conn_words client.conn
+names_words client = codes "client " ++ client.tap.now ++ codes ", namespace " ++ name_words Short client.nsp.now ++ conn_words client.conn
 
 -- the client
 abbrev pub client_words : Option Client → List ℕ

@@ -4,8 +4,11 @@ use Rattle.aud_verdict.specs.declared.verdict.Verdict.{Verdict}
 use Rattle.aud_rows.specs.declared.row.Row.{Row}
 use Rattle.aud_input.specs.declared.input_file.InputFile.{InputFile}
 use Rattle.aud_input.specs.InputFiles.{place_told}
+use Rattle.aud_explanation.specs.declared.name.Names.TheVariants.{Short}
 use Rattle.aud_explanation.specs.Page.{laid_line, to_left, to_right}
 use Rattle.aud_explanation.specs.Record.{record_text, other_session, of_words}
+use Rattle.aud_explanation.specs.Long.{first_shown, last_shown, more_line}
+use Rattle.aud_explanation.specs.LongRows.{kept_rows, rows_left}
 use Rattle.aud_explanation.specs.Mark.{mark}
 use Rattle.aud_explanation.specs.Place.{place_text}
 
@@ -15,7 +18,7 @@ tap_width rows = fold (λ width row. max width (length row.tap.now)) 3 rows
 
 -- what the record of a row says, and of which session, where that isn't the one with this pid
 abbrev pub said_words : List ℕ → Row → List ℕ
-said_words pid row = record_text row.says ++ of_words (other_session pid row.session)
+said_words pid row = record_text Short row.says ++ of_words (other_session pid row.session)
 
 -- a row: the line, the tap, what the record says, and what it is shown for
 abbrev pub row_words : List ℕ → Verdict → ℕ → Row → List ℕ
@@ -25,7 +28,7 @@ row_words pid verdict width row = to_right 8 (decimal row.line) ++ codes " " ++ 
 abbrev pub row_line : List InputFile → List ℕ → Verdict → ℕ → Row → List ℕ
 row_line files pid verdict width row = row_words pid verdict width row ++ place_text (place_told files row.line)
 
--- its line, laid out: the name of a file stands there as it is printed, as all else does
+-- its line, laid out
 abbrev pub row_text : List InputFile → List ℕ → Verdict → ℕ → Row → List ℕ
 row_text files pid verdict width row = laid_line (row_line files pid verdict width row)
 
@@ -33,9 +36,15 @@ row_text files pid verdict width row = laid_line (row_line files pid verdict wid
 abbrev pub heading_text : ℕ → List ℕ
 heading_text width = laid_line (codes "    line " ++ to_left width (codes "tap") ++ codes "  record")
 
--- the heading, and a line for each row
+-- a line for each of these rows
+abbrev pub rows_text : List InputFile → List ℕ → Verdict → ℕ → List Row → List ℕ
+rows_text files pid verdict width rows = flat_map (row_text files pid verdict width) rows
+
+-- the heading, a line for each row that is shown, and one that says how many are left out, before those that are kept
 abbrev pub table_text : List InputFile → List ℕ → Verdict → List Row → List ℕ
-table_text files pid verdict rows = heading_text (tap_width rows) ++ flat_map (row_text files pid verdict (tap_width rows)) rows
+table_text files pid verdict rows =
+    heading_text (tap_width rows) ++ rows_text files pid verdict (tap_width rows) (first_shown rows) ++ more_line (rows_left rows)
+    ++ rows_text files pid verdict (tap_width rows) (kept_rows rows) ++ rows_text files pid verdict (tap_width rows) (last_shown rows)
 
 -- the table, where there are rows: those of the session with this pid
 abbrev pub evidence_text : List InputFile → List ℕ → Verdict → List Row → List ℕ

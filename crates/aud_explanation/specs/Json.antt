@@ -14,6 +14,7 @@ use Rattle.aud_explanation.specs.JsonAlike.{with_alike}
 use Rattle.aud_explanation.specs.JsonRefused.{with_refused}
 use Rattle.aud_explanation.specs.JsonEvent.{with_events}
 use Rattle.aud_explanation.specs.JsonCause.{with_causes}
+use Rattle.aud_explanation.specs.Printed.{json_printed}
 
 -- the verdict, the client, and what it received
 abbrev pub head_members : Explanation → Members → Members
@@ -31,6 +32,6 @@ told_members files e ms = with_causes e.causes.now e.refuted.now (with_events e.
 abbrev pub explanation_data : List InputFile → Explanation → Data
 explanation_data files e = object (told_members files e (with_alike e.alike.now (shown_members files e (head_members e no_members))))
 
--- its text, without blanks
+-- its text, without blanks, as it is printed
 abbrev pub explanation_json : List InputFile → Explanation → List ℕ
-explanation_json files e = compact_text (explanation_data files e)
+explanation_json files e = json_printed (compact_text (explanation_data files e))

@@ -8,6 +8,7 @@ use Rattle.aud_explanation.specs.declared.cause.CauseOf.{CauseOf}
 use Rattle.aud_explanation.specs.declared.cause.CauseOf.TheVariants.{Fault, Refused}
 use Rattle.aud_explanation.specs.CauseState.{is_certain, state_word}
 use Rattle.aud_explanation.specs.JsonValue.{number_or_null, text_data}
+use Rattle.aud_explanation.specs.Long.{all_shown, left_out}
 
 -- what it is of, in a word
 abbrev pub of_word : CauseOf → List ℕ
@@ -36,6 +37,8 @@ cause_data c =
     (member (codes "todo") (string c.todo.now)
     (member (codes "why") (string c.why.now) no_members)))))
 
--- the causes, and the names of those that were refuted
+-- the causes that are shown, how many are left out after the hundredth, and the names of those that were refuted
 unfoldable pub with_causes : List Cause → List (Bor (List ℕ)) → Members → Members
-with_causes causes refuted ms = put (codes "refuted") (array (items text_data refuted)) (put (codes "causes") (array (items cause_data causes)) ms)
+with_causes causes refuted ms =
+    put (codes "refuted") (array (items text_data refuted))
+    (put (codes "causes_left") (whole (left_out causes)) (put (codes "causes") (array (items cause_data (all_shown causes))) ms))

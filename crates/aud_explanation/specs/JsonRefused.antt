@@ -39,6 +39,7 @@ refused_data files pid r =
     (member (codes "missed_left") (missed_left_data (option_copied r.missed))
     (member (codes "reply") (reply_data files pid r.reply) no_members)))))
 
--- the refused recoveries of the session with this pid
+-- the refused recoveries that are shown of the session with this pid, and how many are left out after the hundredth
 unfoldable pub with_refused : List InputFile → List ℕ → List RefusedRecovery → Members → Members
-with_refused files pid recoveries ms = put (codes "refused") (array (items (refused_data files pid) recoveries)) ms
+with_refused files pid recoveries ms =
+    put (codes "refused_left") (whole (left_out recoveries)) (put (codes "refused") (array (items (refused_data files pid) (all_shown recoveries))) ms)

@@ -7,6 +7,8 @@ use Rattle.aud_input.specs.InputFiles.{place_told}
 use Rattle.aud_rows.specs.declared.row.Row.{Row}
 use Rattle.aud_rows.specs.declared.row.Role.{Role}
 use Rattle.aud_rows.specs.declared.row.Role.TheVariants.{Fault, Earlier, Later, Entry, Reached, Room, Left, Break, Back, Ask, Reply}
+use Rattle.aud_explanation.specs.declared.name.Names.TheVariants.{Whole}
+use Rattle.aud_explanation.specs.LongRows.{rows_left, rows_shown}
 use Rattle.aud_explanation.specs.Place.{with_place}
 use Rattle.aud_explanation.specs.JsonValue.{text_or_null}
 use Rattle.aud_explanation.specs.Record.{record_text, other_session}
@@ -29,7 +31,7 @@ role_word Reply = codes "reply"
 unfoldable pub with_row : List ℕ → Row → Members → Members
 with_row pid row ms =
     put (codes "tap") (string row.tap.now)
-    (put (codes "says") (string (record_text row.says))
+    (put (codes "says") (string (record_text Whole row.says))
     (put (codes "role") (string (role_word row.role))
     (put (codes "of") (text_or_null (other_session pid row.session))
     (put (codes "line") (whole row.line) ms))))
@@ -38,6 +40,7 @@ with_row pid row ms =
 abbrev pub row_data : List InputFile → List ℕ → Row → Data
 row_data files pid row = object (with_row pid row (with_place (place_told files row.line) no_members))
 
--- the rows of the session with this pid
+-- the rows that are shown of the session with this pid, and how many are left out
 unfoldable pub with_evidence : List InputFile → List ℕ → List Row → Members → Members
-with_evidence files pid rows ms = put (codes "evidence") (array (items (row_data files pid) rows)) ms
+with_evidence files pid rows ms =
+    put (codes "evidence_left") (whole (rows_left rows)) (put (codes "evidence") (array (items (row_data files pid) (rows_shown rows))) ms)

@@ -8,6 +8,9 @@ pub mod ExplainedClass
 pub mod FaultEntry
 pub mod ShownTail
 pub mod Printed
+pub mod Long
+pub mod LongRows
+pub mod Named
 pub mod Page
 pub mod Record
 pub mod Mark
@@ -15,7 +18,6 @@ pub mod Place
 pub mod Verdict
 pub mod Client
 pub mod Evidence
-pub mod Long
 pub mod Span
 pub mod AlsoText
 pub mod AlikeText

@@ -1,12 +1,12 @@
 -- How lines of text are laid out: at most 100 columns, a character a column, cut at blanks where a word does not fit.
-use Rattle.std.specs.Prelude.{ℕ, ◌+◌, ◌-◌, Bool, true, false, not, ◌||◌, ◌==◌, List, [], ◌∷◌, ◌++◌, codes, length, replicate, nat_le, if◌then◌else◌}
+use Rattle.std.specs.Prelude.{ℕ, ◌+◌, ◌-◌, Bool, true, false, not, ◌||◌, ◌==◌, List, [], ◌∷◌, ◌++◌, codes, length, replicate, nat_le, nat_lt, if◌then◌else◌}
 use Rattle.std.specs.Char.{is_control}
 use Rattle.std.specs.Str.{chars}
-use Rattle.aud_explanation.specs.Printed.{is_format, shown}
+use Rattle.aud_explanation.specs.Printed.{is_hidden, shown}
 
 -- how many columns a character takes: as many as its escape has characters
 abbrev pub columns : ℕ → ℕ
-columns c = if c == 92 then 2 else (if is_control c then 4 else (if is_format c then 8 else 1))
+columns c = if c == 92 then 2 else (if is_control c then 4 else (if is_hidden c then (if nat_lt c 65536 then 8 else 10) else 1))
 
 -- whether it stands within the line, where so many columns are taken
 abbrev pub fits : ℕ → ℕ → Bool

@@ -1,45 +1,63 @@
 -- A text as it is printed: what is not seen, or changes how others are seen, stands there as an escape.
-use Rattle.std.specs.Prelude.{◌≡◌, ℕ, ◌/◌, ◌%◌, ◌==◌, Bool, ◌||◌, List, [], ◌∷◌, ◌++◌, codes, flat_map, encode_utf8, if◌then◌else◌}
+use Rattle.std.specs.Prelude.{◌≡◌, ℕ, ◌+◌, ◌-◌, ◌/◌, ◌%◌, ◌==◌, Bool, ◌||◌, List, [], ◌∷◌, ◌++◌, codes, flat_map, nat_lt, encode_utf8, if◌then◌else◌}
 use Rattle.std.specs.Char.{digit_char, is_control}
 use Rattle.std.specs.Int.{is_in_range}
 use Rattle.std.specs.Str.{chars, IsUtf8}
 
--- a format character: it takes no place of its own, and may turn the direction of others, join or part them, or end a
--- line: U+00AD, U+061C, U+180E, U+200B to U+200F, U+2028 to U+202E, U+2060 to U+206F, U+FEFF, U+FFF9 to U+FFFB
-abbrev pub is_format : ℕ → Bool
-is_format c =
-    c == 0xAD || c == 0x61C || c == 0x180E || is_in_range 0x200B 0x200F c || is_in_range 0x2028 0x202E c
-    || is_in_range 0x2060 0x206F c || c == 0xFEFF || is_in_range 0xFFF9 0xFFFB c
+-- a hidden character: it isn't seen itself, and may turn the direction of others, join or part them, or end a line. It is
+-- one of Unicode's Default_Ignorable_Code_Point, which has all of Bidi_Control (DerivedCoreProperties, PropList), or
+-- U+2028 or U+2029, which end a line or a paragraph, or U+FFF9, U+FFFA or U+FFFB, which annotate
+abbrev pub is_hidden : ℕ → Bool
+is_hidden c =
+    c == 0xAD || c == 0x34F || c == 0x61C || is_in_range 0x115F 0x1160 c || is_in_range 0x17B4 0x17B5 c
+    || is_in_range 0x180B 0x180F c || is_in_range 0x200B 0x200F c || is_in_range 0x2028 0x202E c
+    || is_in_range 0x2060 0x206F c || c == 0x3164 || is_in_range 0xFE00 0xFE0F c || c == 0xFEFF || c == 0xFFA0
+    || is_in_range 0xFFF0 0xFFFB c || is_in_range 0x1BCA0 0x1BCA3 c || is_in_range 0x1D173 0x1D17A c
+    || is_in_range 0xE0000 0xE0FFF c
 
 -- the two hexadecimal digits of a byte
 abbrev pub hex : ℕ → List ℕ
 hex b = digit_char (b / 16) ∷ digit_char (b % 16) ∷ []
 
--- a character below U+10000 by its code
-abbrev pub format_escape : ℕ → List ℕ
-format_escape c = codes "\\u{" ++ hex (c / 256) ++ hex (c % 256) ++ codes "}"
+-- a number below 65,536 in four digits
+abbrev pub hex_16 : ℕ → List ℕ
+hex_16 n = hex (n / 256) ++ hex (n % 256)
 
--- a character as it is printed: `\` as `\\`, a control character as `\x1b`, a format character as `\u{202e}`, and any
--- other as it is
+-- the code of a character: four digits, or six from U+10000 on
+abbrev pub hex_code : ℕ → List ℕ
+hex_code c = if nat_lt c 65536 then hex_16 c else hex (c / 65536) ++ hex_16 (c % 65536)
+
+-- a character by its code
+abbrev pub code_escape : ℕ → List ℕ
+code_escape c = codes "\\u{" ++ hex_code c ++ codes "}"
+
+-- a character as it is printed: `\` as `\\`, a control character as `\x1b`, a hidden one as `\u{202e}`, and any other as
+-- it is
 abbrev pub shown : ℕ → List ℕ
 shown c =
     if c == 92 then codes "\\\\"
     else (if is_control c then codes "\\x" ++ hex c
-    else (if is_format c then format_escape c
+    else (if is_hidden c then code_escape c
     else encode_utf8 c))
 
 -- a text as it is printed
 unfoldable pub printed : List ℕ → List ℕ
 printed text = flat_map shown (chars text)
 
--- a character of a JSON string by its code (RFC 8259, section 7)
-abbrev pub json_escape : ℕ → List ℕ
-json_escape c = codes "\\u" ++ hex (c / 256) ++ hex (c % 256)
+-- half of a character of a JSON string, or a whole one below U+10000 (RFC 8259, section 7)
+abbrev pub json_unit : ℕ → List ℕ
+json_unit n = codes "\\u" ++ hex_16 n
 
--- a character of JSON as it is printed: a control or a format character by its code, which tells the same string, and any
+-- a character of a JSON string by its code: from U+10000 on by a surrogate pair
+abbrev pub json_escape : ℕ → List ℕ
+json_escape c =
+    if nat_lt c 65536 then json_unit c
+    else json_unit (0xD800 + (c - 65536) / 1024) ++ json_unit (0xDC00 + (c - 65536) % 1024)
+
+-- a character of JSON as it is printed: a control or a hidden character by its code, which tells the same string, and any
 -- other as it is. JSON without blanks between its tokens has such characters in strings alone
 abbrev pub json_shown : ℕ → List ℕ
-json_shown c = if is_control c || is_format c then json_escape c else encode_utf8 c
+json_shown c = if is_control c || is_hidden c then json_escape c else encode_utf8 c
 
 -- JSON as it is printed
 unfoldable pub json_printed : List ℕ → List ℕ

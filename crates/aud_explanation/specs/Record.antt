@@ -1,57 +1,69 @@
--- What a record says, in words, and of which session.
+-- What a record says, in words, and of which session. Names stand there as `Named.antt` has them.
 use Rattle.std.specs.Prelude.{ℕ, List, [], ◌++◌, codes, decimal, if◌then◌else◌, Option, Some, None}
 use Rattle.std.specs.Borrow.{Bor}
 use Rattle.std.specs.Str.{bytes_eq}
+use Rattle.aud_explanation.specs.declared.name.Names.{Names}
+use Rattle.aud_explanation.specs.declared.name.Names.TheVariants.{Short}
+use Rattle.aud_explanation.specs.Named.{name_words}
 use Rattle.aud_rows.specs.declared.row.Says.{Says}
 use Rattle.aud_rows.specs.declared.row.Says.TheVariants.{Entry, Start, Take, Takes, Open, Join, Leave, Break, Back, Gone, Asks, Reply, Got, Lost, NoPacket}
 
 -- the session of a reply
-abbrev pub pid_words : Option (Bor (List ℕ)) → List ℕ
-pid_words (Some pid) = codes ", pid " ++ pid.now
-pid_words None = codes ", no pid"
+abbrev pub pid_words : Names → Option (Bor (List ℕ)) → List ℕ
+pid_words names (Some pid) = codes ", pid " ++ name_words names pid.now
+pid_words names None = codes ", no pid"
 
 -- where a client asks to go on
-abbrev pub after_words : Option (Bor (List ℕ)) → List ℕ
-after_words (Some off) = codes " after " ++ off.now
-after_words None = codes ", no offset"
+abbrev pub after_words : Names → Option (Bor (List ℕ)) → List ℕ
+after_words names (Some off) = codes " after " ++ name_words names off.now
+after_words names None = codes ", no offset"
 
 -- what a client asks for
-abbrev pub asks_words : ℕ → List ℕ → Option (Bor (List ℕ)) → List ℕ
-asks_words conn pid off = codes "conn " ++ decimal conn ++ codes " asks " ++ pid ++ after_words off
+abbrev pub asks_words : Names → ℕ → List ℕ → Option (Bor (List ℕ)) → List ℕ
+asks_words names conn pid off = codes "conn " ++ decimal conn ++ codes " asks " ++ name_words names pid ++ after_words names off
 
 -- the names of a reply
-abbrev pub names_words : List ℕ → Option (Bor (List ℕ)) → List ℕ
-names_words sid pid = codes ", sid " ++ sid ++ pid_words pid
+abbrev pub names_words : Names → List ℕ → Option (Bor (List ℕ)) → List ℕ
+names_words names sid pid = codes ", sid " ++ name_words names sid ++ pid_words names pid
 
 -- what a client is answered
-abbrev pub reply_words : ℕ → List ℕ → Option (Bor (List ℕ)) → List ℕ
-reply_words conn sid pid = codes "conn " ++ decimal conn ++ codes " reply" ++ names_words sid pid
+abbrev pub reply_words : Names → ℕ → List ℕ → Option (Bor (List ℕ)) → List ℕ
+reply_words names conn sid pid = codes "conn " ++ decimal conn ++ codes " reply" ++ names_words names sid pid
+
+-- an entry, by its position and its offset
+abbrev pub entry_words : Names → ℕ → List ℕ → List ℕ
+entry_words names position off = decimal position ++ codes " " ++ name_words names off
 
 -- the words that come first where a node takes several entries
 unfoldable pub takes_up : List ℕ
 takes_up = codes "takes up to "
 
 -- up to which entry a node takes
-abbrev pub takes_words : ℕ → List ℕ → List ℕ
-takes_words position off = takes_up ++ decimal position ++ codes " " ++ off
+abbrev pub takes_words : Names → ℕ → List ℕ → List ℕ
+takes_words names position off = takes_up ++ entry_words names position off
 
--- what the record says
-abbrev pub record_text : Says → List ℕ
-record_text (Entry position off) = codes "entry " ++ decimal position ++ codes " " ++ off.now
-record_text (Start cursor) = codes "start, cursor " ++ decimal cursor
-record_text (Take position off) = codes "take " ++ decimal position ++ codes " " ++ off.now
-record_text (Takes position off) = takes_words position off.now
-record_text (Open sid nsp cursor) = codes "open, sid " ++ sid.now ++ codes ", namespace " ++ nsp.now ++ codes ", cursor " ++ decimal cursor
-record_text (Join room) = codes "join " ++ room.now
-record_text (Leave room) = codes "leave " ++ room.now
-record_text (Break turn cursor) = codes "break " ++ decimal turn ++ codes ", cursor " ++ decimal cursor
-record_text (Back turn cursor) = codes "back " ++ decimal turn ++ codes ", cursor " ++ decimal cursor
-record_text Gone = codes "gone"
-record_text (Asks conn pid off) = asks_words conn pid.now off
-record_text (Reply conn sid pid) = reply_words conn sid.now pid
-record_text (Got conn position off) = codes "conn " ++ decimal conn ++ codes " got " ++ decimal position ++ codes " " ++ off.now
-record_text (Lost conn) = codes "conn " ++ decimal conn ++ codes " lost"
-record_text (NoPacket conn) = codes "conn " ++ decimal conn ++ codes " no packet"
+-- the session that opens
+abbrev pub open_words : Names → List ℕ → List ℕ → ℕ → List ℕ
+open_words names sid nsp cursor =
+    codes "open, sid " ++ name_words names sid ++ codes ", namespace " ++ name_words names nsp ++ codes ", cursor " ++ decimal cursor
+
+-- what the record says, with long names whole or short
+abbrev pub record_text : Names → Says → List ℕ
+record_text names (Entry position off) = codes "entry " ++ entry_words names position off.now
+record_text names (Start cursor) = codes "start, cursor " ++ decimal cursor
+record_text names (Take position off) = codes "take " ++ entry_words names position off.now
+record_text names (Takes position off) = takes_words names position off.now
+record_text names (Open sid nsp cursor) = open_words names sid.now nsp.now cursor
+record_text names (Join room) = codes "join " ++ name_words names room.now
+record_text names (Leave room) = codes "leave " ++ name_words names room.now
+record_text names (Break turn cursor) = codes "break " ++ decimal turn ++ codes ", cursor " ++ decimal cursor
+record_text names (Back turn cursor) = codes "back " ++ decimal turn ++ codes ", cursor " ++ decimal cursor
+record_text names Gone = codes "gone"
+record_text names (Asks conn pid off) = asks_words names conn pid.now off
+record_text names (Reply conn sid pid) = reply_words names conn sid.now pid
+record_text names (Got conn position off) = codes "conn " ++ decimal conn ++ codes " got " ++ entry_words names position off.now
+record_text names (Lost conn) = codes "conn " ++ decimal conn ++ codes " lost"
+record_text names (NoPacket conn) = codes "conn " ++ decimal conn ++ codes " no packet"
 
 -- the session that a record speaks of, where it isn't the one with this pid
 abbrev pub other_session : List ℕ → Option (Bor (List ℕ)) → Option (List ℕ)
@@ -60,5 +72,5 @@ other_session pid None = None
 
 -- that session, in words
 abbrev pub of_words : Option (List ℕ) → List ℕ
-of_words (Some session) = codes " of " ++ session
+of_words (Some session) = codes " of " ++ name_words Short session
 of_words None = []

@@ -7,12 +7,14 @@ use Rattle.aud_input.specs.declared.input_file.InputFile.{InputFile}
 use Rattle.aud_explanation.specs.declared.refused.Missed.{Missed}
 use Rattle.aud_explanation.specs.declared.refused.RefusedRecovery.{RefusedRecovery}
 use Rattle.aud_explanation.specs.Long.{first_shown, last_shown, left_out, more_line}
+use Rattle.aud_explanation.specs.declared.name.Names.TheVariants.{Short}
+use Rattle.aud_explanation.specs.Named.{name_words}
 use Rattle.aud_explanation.specs.Page.{laid_line}
 use Rattle.aud_explanation.specs.Evidence.{row_text}
 
 -- the session that the client got instead
 abbrev pub instead_words : Option (List ℕ) → List ℕ
-instead_words (Some pid) = codes "got session " ++ pid
+instead_words (Some pid) = codes "got session " ++ name_words Short pid
 instead_words None = codes "got no session"
 
 -- how many entries it missed
@@ -35,7 +37,7 @@ reply_text files pid verdict width None = []
 
 -- an entry that was missed
 abbrev pub missed_line : Missed → List ℕ
-missed_line m = codes "    missed entry " ++ decimal m.position ++ codes " " ++ m.off.now
+missed_line m = codes "    missed entry " ++ decimal m.position ++ codes " " ++ name_words Short m.off.now
 
 -- its line
 abbrev pub missed_text : Missed → List ℕ
@@ -50,6 +52,11 @@ all_missed_text None = []
 abbrev pub refused_text : List InputFile → List ℕ → Verdict → RefusedRecovery → List ℕ
 refused_text files pid verdict r = head_text r ++ row_text files pid verdict (length r.ask.tap.now) r.ask ++ reply_text files pid verdict (length r.ask.tap.now) r.reply ++ all_missed_text (option_copied r.missed)
 
--- all of them: those of the session with this pid
+-- these: those of the session with this pid
+abbrev pub each_refused_text : List InputFile → List ℕ → Verdict → List RefusedRecovery → List ℕ
+each_refused_text files pid verdict recoveries = flat_map (refused_text files pid verdict) recoveries
+
+-- those that are shown, and a line that says how many are left out
 abbrev pub all_refused_text : List InputFile → List ℕ → Verdict → List RefusedRecovery → List ℕ
-all_refused_text files pid verdict recoveries = flat_map (refused_text files pid verdict) recoveries
+all_refused_text files pid verdict recoveries =
+    each_refused_text files pid verdict (first_shown recoveries) ++ more_line (left_out recoveries) ++ each_refused_text files pid verdict (last_shown recoveries)

@@ -35,6 +35,6 @@ whole_record_data files tap number line json =
     (put (codes "line") (number_or_null line)
     (with_place (option_and_then (place_told files) line) no_members))))))
 
--- the same as one line of JSON
+-- the same as one line of JSON, as it is printed
 abbrev pub whole_record_json : List InputFile → List ℕ → ℕ → Option ℕ → Data → List ℕ
-whole_record_json files tap number line json = compact_text (whole_record_data files tap number line json) ++ codes "\n"
+whole_record_json files tap number line json = json_printed (compact_text (whole_record_data files tap number line json)) ++ codes "\n"

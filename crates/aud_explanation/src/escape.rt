@@ -1,33 +1,66 @@
 //! Texts as they are printed.
 ghost use Rattle.std.specs.Prelude.{◌≡◌, ◌++◌, ◌<◌, IfOk, OnOk, string_bytes};
-ghost use Rattle.aud_explanation.specs.Printed.{PrintedApart, format_escape, is_format, json_escape, json_printed, json_shown, printed, shown};
+ghost use Rattle.aud_explanation.specs.Printed.{PrintedApart, code_escape, hex_16, hex_code, is_hidden, json_escape, json_printed, json_shown, json_unit, printed, shown};
 
 use std::alloc::{AllocError, Global};
 
-/// Whether this is a format character: it takes no place of its own, and may turn, join or part others.
-pub(crate) fn is_format(c: char) -> bool
-    ensures { result ≡ is_format c }
+/// Whether this is a hidden character: it isn't seen itself, and may turn, join or part others, or end a line.
+pub(crate) fn is_hidden(c: char) -> bool
+    ensures { result ≡ is_hidden c }
 {
     matches!(
         c,
         '\u{ad}'
+            | '\u{34f}'
             | '\u{61c}'
-            | '\u{180e}'
+            | '\u{115f}'..='\u{1160}'
+            | '\u{17b4}'..='\u{17b5}'
+            | '\u{180b}'..='\u{180f}'
             | '\u{200b}'..='\u{200f}'
             | '\u{2028}'..='\u{202e}'
             | '\u{2060}'..='\u{206f}'
+            | '\u{3164}'
+            | '\u{fe00}'..='\u{fe0f}'
             | '\u{feff}'
-            | '\u{fff9}'..='\u{fffb}'
+            | '\u{ffa0}'
+            | '\u{fff0}'..='\u{fffb}'
+            | '\u{1bca0}'..='\u{1bca3}'
+            | '\u{1d173}'..='\u{1d17a}'
+            | '\u{e0000}'..='\u{e0fff}'
     )
 }
 
-/// Puts the escape of a format character at the end.
-fn push_format(out: &mut String, code: u32) -> Result<(), AllocError>
-    requires { code < 65536 }
-    ensures { OnOk result (string_bytes out.new ≡ string_bytes out.old ++ format_escape code) }
+/// Puts a number of 16 bits at the end in four hexadecimal digits.
+fn push_hex_16(out: &mut String, number: u32) -> Result<(), AllocError>
+    requires { number < 65536 }
+    ensures { OnOk result (string_bytes out.new ≡ string_bytes out.old ++ hex_16 number) }
 {
-    let (high, low) = (code / 256, code % 256);
-    write!(out, "\\u{{{high:02x}{low:02x}}}")
+    let (high, low) = (number / 256, number % 256);
+    write!(out, "{high:02x}{low:02x}")
+}
+
+/// Puts the code of a character at the end in four hexadecimal digits, or six from U+10000 on.
+fn push_hex_code(out: &mut String, code: u32) -> Result<(), AllocError>
+    requires { code < 1114112 }
+    ensures { OnOk result (string_bytes out.new ≡ string_bytes out.old ++ hex_code code) }
+{
+    if code < 65536 {
+        push_hex_16(out, code)
+    } else {
+        let plane = code / 65536;
+        write!(out, "{plane:02x}")?;
+        push_hex_16(out, code % 65536)
+    }
+}
+
+/// Puts the escape of a hidden character at the end.
+fn push_code(out: &mut String, code: u32) -> Result<(), AllocError>
+    requires { code < 1114112 }
+    ensures { OnOk result (string_bytes out.new ≡ string_bytes out.old ++ code_escape code) }
+{
+    out.push_str("\\u{")?;
+    push_hex_code(out, code)?;
+    out.push_str("}")
 }
 
 /// Puts the character at the end as it is printed.
@@ -39,16 +72,16 @@ pub(crate) fn push_shown(out: &mut String, c: char) -> Result<(), AllocError>
         out.push_str("\\\\")
     } else if c.is_control() {
         write!(out, "\\x{code:02x}")
-    } else if is_format(c) {
-        push_format(out, code)
+    } else if is_hidden(c) {
+        push_code(out, code)
     } else {
         out.push(c)
     }
 }
 
-/// Puts the text at the end as it is printed: `\` as `\\`, a control character as `\x1b`, a character that only
-/// formats others as `\u{202e}`, and all others as they are. So a text stays in its line, and no two are printed alike,
-/// which is the law [`printed_apart`].
+/// Puts the text at the end as it is printed: `\` as `\\`, a control character as `\x1b`, a character that isn't seen
+/// itself or turns the direction of others as `\u{202e}`, and all others as they are. So a text stays in its line, and no
+/// two are printed alike, which is the law [`printed_apart`].
 pub fn push_printed(out: &mut String, text: &str) -> Result<(), AllocError>
     ensures { OnOk result (string_bytes out.new ≡ string_bytes out.old ++ printed text.now) }
 {
@@ -67,30 +100,44 @@ pub fn printed(alloc: Global, text: &str) -> Result<String, AllocError>
     Ok(out)
 }
 
+/// Puts half of a character of a JSON string, or a whole one below U+10000, at the end by its code.
+fn push_json_unit(out: &mut String, unit: u32) -> Result<(), AllocError>
+    requires { unit < 65536 }
+    ensures { OnOk result (string_bytes out.new ≡ string_bytes out.old ++ json_unit unit) }
+{
+    out.push_str("\\u")?;
+    push_hex_16(out, unit)
+}
+
 /// Puts a character of a JSON string at the end by its code.
 fn push_json_escape(out: &mut String, code: u32) -> Result<(), AllocError>
-    requires { code < 65536 }
+    requires { code < 1114112 }
     ensures { OnOk result (string_bytes out.new ≡ string_bytes out.old ++ json_escape code) }
 {
-    let (high, low) = (code / 256, code % 256);
-    write!(out, "\\u{high:02x}{low:02x}")
+    if code < 65536 {
+        push_json_unit(out, code)
+    } else {
+        let past = code - 65536;
+        push_json_unit(out, 0xd800 + past / 1024)?;
+        push_json_unit(out, 0xdc00 + past % 1024)
+    }
 }
 
 /// Puts a character of JSON at the end as it is printed.
 fn push_json_shown(out: &mut String, c: char) -> Result<(), AllocError>
     ensures { OnOk result (string_bytes out.new ≡ string_bytes out.old ++ json_shown c) }
 {
-    if c.is_control() || is_format(c) {
+    if c.is_control() || is_hidden(c) {
         push_json_escape(out, c as u32)
     } else {
         out.push(c)
     }
 }
 
-/// Puts JSON without blanks between its tokens at the end as it is printed: a control or a format character, which
-/// stands in a string alone, as `\u202e` (RFC 8259, section 7), and all others as they are. It stays in its line, and
-/// is JSON of the same value.
-pub(crate) fn push_json_printed(out: &mut String, json: &str) -> Result<(), AllocError>
+/// Puts JSON without blanks between its tokens at the end as it is printed: a control or a hidden character, which
+/// stands in a string alone, as `\u202e`, from U+10000 on as a surrogate pair (RFC 8259, section 7), and all others as
+/// they are. It stays in its line, and is JSON of the same value.
+pub fn push_json_printed(out: &mut String, json: &str) -> Result<(), AllocError>
     ensures { OnOk result (string_bytes out.new ≡ string_bytes out.old ++ json_printed json.now) }
 {
     for c in json.chars() {

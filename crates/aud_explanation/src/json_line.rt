@@ -15,6 +15,7 @@ mod turn;
 pub(crate) mod value;
 mod verdict;
 
+use crate::escape::push_json_printed;
 use crate::explanation::{Explanation, class_of_explained};
 use crate::json_line::account::{put_account, put_client};
 use crate::json_line::alike::put_alike;
@@ -92,9 +93,13 @@ fn explanation_value(
 /// The explanation as one line of JSON, without blanks and without a newline, its keys in byte order. Each member is
 /// always there: what is not known is `null`. `v` is the version of these members, 1.
 ///
-/// Of more than 200 turns, events of the client, or entries that it missed after a refused recovery, the first 100 and
-/// the last 100 stand there; `turns_left`, `events_left` and `missed_left` are how many are left out between them, and 0
-/// where all stand there.
+/// Of more than 200 turns, rows of evidence, events of the client, refused recoveries, causes, or entries that the client
+/// missed after a refused recovery, the first 100 and the last 100 stand there; `turns_left`, `evidence_left` and so on
+/// are how many are left out between them, and 0 where all stand there. Of the rows between, those at which the fault
+/// shows stand there too. Names are whole.
+///
+/// A control character and one that isn't seen itself, or turns the direction of others, stands there by its code, as
+/// `\u202e`, which says the same to a reader of JSON.
 ///
 /// `files` are those of the input, in which the lines of rows are counted: the `file` of a row is the name of the one in
 /// which its line stands, and `file_line` the line's number there. Both are `null` where there are fewer than two files.
@@ -107,5 +112,8 @@ pub fn explanation_json(
     ensures { IfOk result (λ text. string_bytes text ≡ explanation_json files.now explanation.now) }
 {
     let value = explanation_value(alloc, files, explanation)?;
-    value.to_string(alloc)
+    let json = value.to_string(alloc)?;
+    let mut text = String::new(alloc);
+    push_json_printed(&mut text, json.as_str())?;
+    Ok(text)
 }

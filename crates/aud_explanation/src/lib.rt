@@ -1,8 +1,8 @@
 //! One session's explanation: its data, its text, and its JSON.
 //!
 //! Begin at [`Explanation`], which whoever found the evidence fills. [`push_text`] writes it for a reader, and
-//! [`explanation_json`] for a program; both say in which of several files a line stands. [`printed`] is how names that
-//! others chose stand in text. [`whole_record_text`] and [`whole_record_json`] write a record that is asked for by its
+//! [`explanation_json`] for a program; both say in which of several files a line stands. [`named`] is how names that
+//! others chose stand in a line, and [`printed`] how a line is printed. [`whole_record_text`] and [`whole_record_json`] write a record that is asked for by its
 //! number.
 //!
 //! ```
@@ -41,6 +41,8 @@ mod explanation;
 mod fault;
 mod json_line;
 mod long;
+mod long_rows;
+mod name;
 mod refused;
 mod tail;
 mod text;
@@ -50,10 +52,11 @@ mod whole_record;
 pub use also::Also;
 pub use cause::{Cause, CauseOf, CauseState};
 pub use client::{Account, Client};
-pub use escape::{printed, printed_apart, push_printed};
+pub use escape::{printed, printed_apart, push_json_printed, push_printed};
 pub use event::{ClientEvent, Happens};
 pub use explanation::{Explanation, class_of_explained};
 pub use json_line::explanation_json;
+pub use name::{named, names_apart};
 pub use refused::{Missed, RefusedRecovery};
 pub use text::push_text;
 pub use turn::{TurnBegin, TurnEnd, TurnShown};

@@ -96,12 +96,13 @@ fn push_told(
 /// after eight blanks, and so does what is left of a word that is longer than a line: nothing of it is left out. A
 /// character stands there as [`push_printed`](crate::push_printed) puts it, its escape within one line.
 ///
-/// Of more than 200 turns, events of the client, or entries that it missed after a refused recovery, the first 100 and
-/// the last 100 stand there, and between them how many are left out.
+/// Of more than 200 turns, rows of evidence, events of the client, refused recoveries, causes, or entries that the client
+/// missed after a refused recovery, the first 100 and the last 100 stand there, and between them how many are left out.
+/// Of the rows between, those at which the fault shows stand there too. So it is with the characters of a name.
 ///
 /// `files` are those of the input, in which the lines of rows are counted: a row says in which of them its line stands,
 /// by its name, and the line's number there. Nothing is said of files where there are fewer than two. A row whose record
-/// speaks of another session names that, as `join r of p7`.
+/// speaks of another session names that, as `join r of p7`. Names stand there as [`named`](crate::named) has them.
 pub fn push_text(
     alloc: Global,
     out: &mut String,

@@ -18,6 +18,7 @@ use std::alloc::{AllocError, Global};
 
 /// Puts the line at the end, where it is known.
 fn push_line_words(
+    alloc: Global,
     head: &mut String,
     files: &[InputFile],
     line: Option<u64>,
@@ -28,7 +29,7 @@ fn push_line_words(
     match line {
         Some(line) => {
             write!(head, "  line {line}")?;
-            push_place(head, files, line)
+            push_place(alloc, head, files, line)
         }
         None => Ok(()),
     }
@@ -45,7 +46,7 @@ fn head_words(
     ensures { IfOk result (λ head. string_bytes head ≡ head_words files.now tap.now number line) }
 {
     let mut head = format!(in alloc; "{tap} {number}")?;
-    push_line_words(&mut head, files, line)?;
+    push_line_words(alloc, &mut head, files, line)?;
     Ok(head)
 }
 
@@ -129,7 +130,9 @@ pub fn whole_record_json(
         ≡ whole_record_json files.now tap.now number line (view json)) }
 {
     let value = whole_record_value(alloc, files, tap, number, line, json)?;
-    let mut text = value.to_string(alloc)?;
+    let json = value.to_string(alloc)?;
+    let mut text = String::new(alloc);
+    push_json_printed(&mut text, json.as_str())?;
     text.push_str("\n")?;
     Ok(text)
 }

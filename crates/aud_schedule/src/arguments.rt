@@ -51,8 +51,7 @@ const FAULTS: [&str; 15] = [
     "take-twice",
 ];
 
-const NO_ROOM: &str =
-    "a fault takes 32 acts or more, and the fault lag 2 nodes or more\n\nFor more information, try '--help'.";
+const NO_ROOM: &str = "a fault takes 32 acts or more, and the fault lag 2 nodes or more";
 
 /// An option that takes a value.
 fn option<'a>(

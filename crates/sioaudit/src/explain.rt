@@ -155,7 +155,25 @@ fn unread_at(
         Some(name) => name.as_str(),
         None => "-",
     };
-    unread(rt, alloc, name, os_error)
+    let status = unread(rt, alloc, name, os_error);
+    say_of_taps(rt, alloc, options, file);
+    status
+}
+
+/// Where records are asked for, and this file and the next one of the arguments could be a tap and a number: says how the
+/// records of another tap are asked for.
+fn say_of_taps(rt: &impl Eprint, alloc: Global, options: &ExplainOptions, file: usize) {
+    let [name, number, ..] = options.files.as_slice().get(file..).unwrap_or(&[]) else {
+        return;
+    };
+    if options.records.as_slice().is_empty() || number.as_str().parse::<u64>().is_err() {
+        return;
+    }
+    let (Ok(name), number) = (printed(alloc, name.as_str()), number.as_str()) else {
+        return;
+    };
+    let name = name.as_str();
+    let _ = eprintln!(rt; "  tip: another tap has a --record of its own: --record {name} {number}");
 }
 
 /// Says that nothing names a session of the arguments.

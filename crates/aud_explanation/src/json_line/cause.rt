@@ -7,6 +7,7 @@ ghost use Rattle.aud_explanation.specs.JsonCause.{cause_data, cause_front, of_li
 
 use crate::cause::{Cause, CauseOf};
 use crate::json_line::value::{number_or_null, numbers, texts};
+use crate::long::{all_shown, left_out};
 use serde_json::{Map, Value, put};
 use std::alloc::{AllocError, Global};
 
@@ -99,7 +100,7 @@ fn cause_values(alloc: Global, causes: &[Cause<'_>]) -> Result<Vec<Value>, Alloc
     Ok(values)
 }
 
-/// Puts the causes, and the names of those that were refuted.
+/// Puts the causes, as far as they are shown, how many are left out, and the names of those that were refuted.
 #[tactic(auto, unfolding(crate::specs::JsonCause::with_causes))]
 pub(crate) fn put_causes(
     alloc: Global,
@@ -110,8 +111,11 @@ pub(crate) fn put_causes(
     ensures { OnOk result (members_view members.new.entries
         ≡ with_causes causes.now refuted.now (members_view members.old.entries)) }
 {
-    let values = cause_values(alloc, causes)?;
+    let shown = all_shown(alloc, causes)?;
+    let values = cause_values(alloc, shown.as_slice())?;
     put(members, alloc, "causes", Value::Array(values))?;
+    let left = left_out(causes) as u64;
+    put(members, alloc, "causes_left", Value::from(left))?;
     let ids = texts(alloc, refuted)?;
     put(members, alloc, "refuted", Value::Array(ids))
 }

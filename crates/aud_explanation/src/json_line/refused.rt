@@ -103,7 +103,7 @@ fn refused_values(
     Ok(values)
 }
 
-/// Puts the refused recoveries of the session with this pid.
+/// Puts the refused recoveries of the session with this pid, as far as they are shown, and how many are left out.
 #[tactic(auto, unfolding(crate::specs::JsonRefused::with_refused))]
 pub(crate) fn put_refused(
     alloc: Global,
@@ -115,6 +115,9 @@ pub(crate) fn put_refused(
     ensures { OnOk result (members_view members.new.entries
         ≡ with_refused files.now pid.now recoveries.now (members_view members.old.entries)) }
 {
-    let values = refused_values(alloc, files, pid, recoveries)?;
-    put(members, alloc, "refused", Value::Array(values))
+    let shown = all_shown(alloc, recoveries)?;
+    let values = refused_values(alloc, files, pid, shown.as_slice())?;
+    put(members, alloc, "refused", Value::Array(values))?;
+    let left = left_out(recoveries) as u64;
+    put(members, alloc, "refused_left", Value::from(left))
 }

@@ -4,9 +4,12 @@ ghost use Rattle.serde_json.specs.View.{view, items_view, members_view};
 ghost use Rattle.aud_cert.specs.Text.{items};
 ghost use Rattle.aud_explanation.specs.Record.{record_text};
 ghost use Rattle.aud_explanation.specs.JsonRow.{role_word, with_row, row_data, with_evidence};
+ghost use Rattle.aud_explanation.specs.declared.name.Names.TheVariants.{Whole};
 
 use crate::json_line::place::put_place;
 use crate::json_line::value::text_or_null;
+use crate::long_rows::{kept_rows, rows_left, rows_shown};
+use crate::name::Names;
 use crate::text::{other_session, push_record};
 use aud_input::InputFile;
 use aud_rows::{Role, Row, Says};
@@ -33,10 +36,10 @@ fn role_word(role: Role) -> &'static str
 
 /// What a record says.
 fn words(alloc: Global, says: Says<'_>) -> Result<String, AllocError>
-    ensures { IfOk result (λ text. string_bytes text ≡ record_text says.entry) }
+    ensures { IfOk result (λ text. string_bytes text ≡ record_text Whole says.entry) }
 {
     let mut text = String::new(alloc);
-    push_record(&mut text, says)?;
+    push_record(alloc, &mut text, Names::Whole, says)?;
     Ok(text)
 }
 
@@ -93,7 +96,7 @@ fn row_values(
     Ok(values)
 }
 
-/// Puts the rows of the evidence of the session with this pid.
+/// Puts the rows of the evidence of the session with this pid, as far as they are shown, and how many are left out.
 #[tactic(auto, unfolding(crate::specs::JsonRow::with_evidence))]
 pub(crate) fn put_evidence(
     alloc: Global,
@@ -105,6 +108,10 @@ pub(crate) fn put_evidence(
     ensures { OnOk result (members_view members.new.entries
         ≡ with_evidence files.now pid.now rows.now (members_view members.old.entries)) }
 {
-    let values = row_values(alloc, files, pid, rows)?;
-    put(members, alloc, "evidence", Value::Array(values))
+    let kept = kept_rows(alloc, rows)?;
+    let shown = rows_shown(alloc, rows, kept.as_slice())?;
+    let values = row_values(alloc, files, pid, shown.as_slice())?;
+    put(members, alloc, "evidence", Value::Array(values))?;
+    let left = rows_left(rows, kept.as_slice()) as u64;
+    put(members, alloc, "evidence_left", Value::from(left))
 }

@@ -1,7 +1,10 @@
 //! The other sessions with the same fault at the same record.
-ghost use Rattle.std.specs.Prelude.{◌≡◌, ◌++◌, OnOk, flat_map, string_bytes};
+ghost use Rattle.std.specs.Prelude.{◌≡◌, ◌++◌, OnOk, codes, flat_map, string_bytes};
+ghost use Rattle.aud_explanation.specs.declared.name.Names.TheVariants.{Short};
+ghost use Rattle.aud_explanation.specs.Named.{name_words};
 ghost use Rattle.aud_explanation.specs.AlikeText.{alike_count, alike_line, alike_text, pid_listed, sessions_word, the_same};
 
+use crate::name::{Names, push_name};
 use crate::text::page::push_line;
 use std::alloc::{AllocError, Global};
 
@@ -33,23 +36,31 @@ fn push_count(line: &mut String, pids: &[&str]) -> Result<(), AllocError>
     line.push_str(sessions_word(pids))
 }
 
+/// Puts a pid at the end, a blank before it.
+fn push_pid(alloc: Global, line: &mut String, pid: &str) -> Result<(), AllocError>
+    ensures { OnOk result (string_bytes line.new
+        ≡ string_bytes line.old ++ codes " " ++ name_words Short pid.now) }
+{
+    line.push_str(" ")?;
+    push_name(alloc, line, Names::Short, pid)
+}
+
 /// Puts the pids at the end, a blank before each.
-fn push_pids(line: &mut String, pids: &[&str]) -> Result<(), AllocError>
+fn push_pids(alloc: Global, line: &mut String, pids: &[&str]) -> Result<(), AllocError>
     ensures { OnOk result (string_bytes line.new
         ≡ string_bytes line.old ++ flat_map pid_listed pids.now) }
 {
     for pid in pids {
-        let pid = *pid;
-        write!(line, " {pid}")?;
+        push_pid(alloc, line, *pid)?;
     }
     Ok(())
 }
 
-fn push_words(line: &mut String, pids: &[&str]) -> Result<(), AllocError>
+fn push_words(alloc: Global, line: &mut String, pids: &[&str]) -> Result<(), AllocError>
     ensures { OnOk result (string_bytes line.new ≡ string_bytes line.old ++ alike_line pids.now) }
 {
     push_count(line, pids)?;
-    push_pids(line, pids)
+    push_pids(alloc, line, pids)
 }
 
 /// Puts a line with the other sessions at the end, and nothing where there are none.
@@ -60,6 +71,6 @@ pub(crate) fn push_alike(alloc: Global, out: &mut String, pids: &[&str]) -> Resu
         return Ok(());
     }
     let mut line = String::new(alloc);
-    push_words(&mut line, pids)?;
+    push_words(alloc, &mut line, pids)?;
     push_line(out, line.as_str())
 }

@@ -1,8 +1,9 @@
 //! The causes.
 ghost use Rattle.std.specs.Prelude.{◌≡◌, ◌++◌, OnOk, string_bytes};
-ghost use Rattle.aud_explanation.specs.CauseText.{cause_line, cause_text, causes_text, each_text, has_own, is_of_fault, lines_words, none_holds, none_text, of_words, todo_line};
+ghost use Rattle.aud_explanation.specs.CauseText.{cause_line, cause_text, causes_text, each_text, has_own, is_of_fault, is_sole, lines_words, none_holds, none_text, of_words, shown_text, stands_words, todo_line};
 
-use crate::cause::{Cause, CauseOf};
+use crate::cause::{Cause, CauseOf, CauseState};
+use crate::long::{first_shown, last_shown, left_out, push_more};
 use crate::text::page::push_line;
 use crate::text::span::push_lines;
 use std::alloc::{AllocError, Global};
@@ -30,14 +31,25 @@ fn push_of(line: &mut String, of: CauseOf) -> Result<(), AllocError>
     }
 }
 
+/// How a cause stands, in words.
+fn stands_words(sole: bool, of: CauseOf, state: CauseState) -> &'static str
+    ensures { result.now ≡ stands_words sole of state }
+{
+    match (sole, of, state) {
+        (true, CauseOf::Fault, CauseState::Fits) => "the one cause known",
+        _ => state.word(),
+    }
+}
+
 /// Puts what happened at the end.
-fn push_why(line: &mut String, cause: &Cause<'_>) -> Result<(), AllocError>
-    ensures { OnOk result (string_bytes line.new ≡ string_bytes line.old ++ cause_line cause.now) }
+fn push_why(line: &mut String, sole: bool, cause: &Cause<'_>) -> Result<(), AllocError>
+    ensures { OnOk result (string_bytes line.new
+        ≡ string_bytes line.old ++ cause_line sole cause.now) }
 {
     line.push_str("cause ")?;
     line.push_str(cause.id)?;
     line.push_str(" (")?;
-    line.push_str(cause.state.word())?;
+    line.push_str(stands_words(sole, cause.of, cause.state))?;
     push_where(line, cause.lines)?;
     push_of(line, cause.of)?;
     line.push_str("): ")?;
@@ -53,11 +65,17 @@ fn push_todo(line: &mut String, todo: &str) -> Result<(), AllocError>
 }
 
 /// Puts the lines of a cause at the end: what happened, and what to do.
-fn push_cause(alloc: Global, out: &mut String, cause: &Cause<'_>) -> Result<(), AllocError>
-    ensures { OnOk result (string_bytes out.new ≡ string_bytes out.old ++ cause_text cause.now) }
+fn push_cause(
+    alloc: Global,
+    out: &mut String,
+    sole: bool,
+    cause: &Cause<'_>,
+) -> Result<(), AllocError>
+    ensures { OnOk result (string_bytes out.new
+        ≡ string_bytes out.old ++ cause_text sole cause.now) }
 {
     let mut why = String::new(alloc);
-    push_why(&mut why, cause)?;
+    push_why(&mut why, sole, cause)?;
     push_line(out, why.as_str())?;
     let mut todo = String::new(alloc);
     push_todo(&mut todo, cause.todo)?;
@@ -92,6 +110,20 @@ fn none_holds(refuted: &[&'static str], causes: &[Cause<'_>]) -> bool
     !has_own(causes)
 }
 
+/// Whether one cause of the fault alone is known: none was refuted, and of these, among which those of the fault come
+/// first, one is.
+fn is_sole(refuted: &[&'static str], causes: &[Cause<'_>]) -> bool
+    ensures { result ≡ is_sole refuted.now causes.now }
+{
+    if !refuted.is_empty() {
+        return false;
+    }
+    match causes {
+        [first, others @ ..] => is_of_fault(first.of) && !has_own(others),
+        [] => false,
+    }
+}
+
 /// Puts at the end that no known cause holds, where it is so.
 fn push_none(out: &mut String, none: bool) -> Result<(), AllocError>
     ensures { OnOk result (string_bytes out.new ≡ string_bytes out.old ++ none_text none) }
@@ -103,14 +135,35 @@ fn push_none(out: &mut String, none: bool) -> Result<(), AllocError>
     }
 }
 
-/// Puts the causes at the end.
-fn push_each(alloc: Global, out: &mut String, causes: &[Cause<'_>]) -> Result<(), AllocError>
-    ensures { OnOk result (string_bytes out.new ≡ string_bytes out.old ++ each_text causes.now) }
+/// Puts these causes at the end.
+fn push_each(
+    alloc: Global,
+    out: &mut String,
+    sole: bool,
+    causes: &[Cause<'_>],
+) -> Result<(), AllocError>
+    ensures { OnOk result (string_bytes out.new
+        ≡ string_bytes out.old ++ each_text sole causes.now) }
 {
     for cause in causes {
-        push_cause(alloc, out, cause)?;
+        push_cause(alloc, out, sole, cause)?;
     }
     Ok(())
+}
+
+/// Puts the causes at the end: of more than 200 the first 100 and the last 100.
+fn push_shown(
+    alloc: Global,
+    out: &mut String,
+    sole: bool,
+    causes: &[Cause<'_>],
+) -> Result<(), AllocError>
+    ensures { OnOk result (string_bytes out.new
+        ≡ string_bytes out.old ++ shown_text sole causes.now) }
+{
+    push_each(alloc, out, sole, first_shown(causes))?;
+    push_more(out, left_out(causes))?;
+    push_each(alloc, out, sole, last_shown(causes))
 }
 
 /// Puts the causes at the end, and before them that none of the fault holds, where it is so.
@@ -124,5 +177,5 @@ pub(crate) fn push_causes(
         ≡ string_bytes out.old ++ causes_text refuted.now causes.now) }
 {
     push_none(out, none_holds(refuted, causes))?;
-    push_each(alloc, out, causes)
+    push_shown(alloc, out, is_sole(refuted, causes), causes)
 }

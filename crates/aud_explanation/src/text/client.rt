@@ -3,6 +3,7 @@ ghost use Rattle.std.specs.Prelude.{◌≡◌, ◌++◌, OnOk, string_bytes};
 ghost use Rattle.aud_explanation.specs.Client.{conn_words, names_words, client_words, tail_words, frame_words, counts_words, account_words, client_text};
 
 use crate::client::{Account, Client};
+use crate::name::{Names, push_name};
 use crate::tail::shown_tail;
 use crate::text::page::push_line;
 use aud_verdict::Verdict;
@@ -19,22 +20,27 @@ fn push_conn(line: &mut String, conn: Option<u64>) -> Result<(), AllocError>
 }
 
 /// Puts the names of a client at the end.
-fn push_names(line: &mut String, client: &Client<'_>) -> Result<(), AllocError>
+fn push_names(alloc: Global, line: &mut String, client: &Client<'_>) -> Result<(), AllocError>
     ensures { OnOk result (string_bytes line.new
         ≡ string_bytes line.old ++ names_words client.now) }
 {
-    let (tap, nsp) = (client.tap, client.nsp);
-    write!(line, "client {tap}, namespace {nsp}")?;
+    let tap = client.tap;
+    write!(line, "client {tap}, namespace ")?;
+    push_name(alloc, line, Names::Short, client.nsp)?;
     push_conn(line, client.conn)
 }
 
 /// Puts the words for the client at the end.
-fn push_words(line: &mut String, client: Option<Client<'_>>) -> Result<(), AllocError>
+fn push_words(
+    alloc: Global,
+    line: &mut String,
+    client: Option<Client<'_>>,
+) -> Result<(), AllocError>
     ensures { OnOk result (string_bytes line.new
         ≡ string_bytes line.old ++ client_words client.entry) }
 {
     match client {
-        Some(client) => push_names(line, &client),
+        Some(client) => push_names(alloc, line, &client),
         None => write!(line, "no one client"),
     }
 }
@@ -98,7 +104,7 @@ pub(crate) fn push_client(
         ≡ string_bytes out.old ++ client_text verdict.now client.entry turns account) }
 {
     let mut line = String::new(alloc);
-    push_words(&mut line, client)?;
+    push_words(alloc, &mut line, client)?;
     write!(&mut line, ", turns {turns}")?;
     push_account(&mut line, verdict, account)?;
     push_line(out, line.as_str())

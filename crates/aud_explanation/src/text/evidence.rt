@@ -1,7 +1,10 @@
 //! The table of evidence.
-ghost use Rattle.std.specs.Prelude.{◌≡◌, ◌++◌, OnOk, flat_map, string_bytes};
-ghost use Rattle.aud_explanation.specs.Evidence.{tap_width, said_words, row_words, row_line, row_text, heading_text, table_text, evidence_text};
+ghost use Rattle.std.specs.Prelude.{◌≡◌, ◌++◌, OnOk, string_bytes};
+ghost use Rattle.aud_explanation.specs.Evidence.{tap_width, said_words, row_words, row_line, row_text, rows_text, heading_text, table_text, evidence_text};
 
+use crate::long::{first_shown, last_shown, push_more};
+use crate::long_rows::{kept_rows, rows_left};
+use crate::name::Names;
 use crate::text::mark::mark;
 use crate::text::page::{push_left, push_line, push_right};
 use crate::text::place::push_place;
@@ -23,12 +26,12 @@ fn tap_width(rows: &[Row<'_>]) -> usize
 }
 
 /// Puts what the record of a row says at the end, and of which session, where that isn't the one with this pid.
-fn push_said(line: &mut String, pid: &str, row: &Row<'_>) -> Result<(), AllocError>
+fn push_said(alloc: Global, line: &mut String, pid: &str, row: &Row<'_>) -> Result<(), AllocError>
     ensures { OnOk result (string_bytes line.new
         ≡ string_bytes line.old ++ said_words pid.now row.now) }
 {
-    push_record(line, row.says)?;
-    push_of(line, other_session(row.session, pid))
+    push_record(alloc, line, Names::Short, row.says)?;
+    push_of(alloc, line, other_session(row.session, pid))
 }
 
 /// Puts the words of a row at the end.
@@ -49,7 +52,7 @@ fn push_words(
     line.push_str(" ")?;
     push_left(line, row.tap, width)?;
     line.push_str("  ")?;
-    push_said(line, pid, row)?;
+    push_said(alloc, line, pid, row)?;
     line.push_str(mark(row.role, verdict))
 }
 
@@ -68,7 +71,7 @@ pub(crate) fn push_row(
 {
     let mut line = String::new(alloc);
     push_words(alloc, &mut line, pid, verdict, width, row)?;
-    push_place(&mut line, files, row.line)?;
+    push_place(alloc, &mut line, files, row.line)?;
     push_line(out, line.as_str())
 }
 
@@ -95,7 +98,7 @@ fn push_rows(
 ) -> Result<(), AllocError>
     ensures { OnOk result (string_bytes out.new
         ≡ string_bytes out.old
-        ++ flat_map (row_text files.now pid.now verdict.now width) rows.now) }
+        ++ rows_text files.now pid.now verdict.now width rows.now) }
 {
     for row in rows {
         push_row(alloc, out, files, pid, verdict, width, row)?;
@@ -103,7 +106,8 @@ fn push_rows(
     Ok(())
 }
 
-/// Puts the heading and the rows at the end.
+/// Puts the heading and the rows at the end: of more than 200 the first 100, those between at which the fault shows, and
+/// the last 100.
 fn push_table(
     alloc: Global,
     out: &mut String,
@@ -116,8 +120,13 @@ fn push_table(
         ≡ string_bytes out.old ++ table_text files.now pid.now verdict.now rows.now) }
 {
     let width = tap_width(rows);
+    let kept = kept_rows(alloc, rows)?;
+    let kept = kept.as_slice();
     push_heading(alloc, out, width)?;
-    push_rows(alloc, out, files, pid, verdict, width, rows)
+    push_rows(alloc, out, files, pid, verdict, width, first_shown(rows))?;
+    push_more(out, rows_left(rows, kept))?;
+    push_rows(alloc, out, files, pid, verdict, width, kept)?;
+    push_rows(alloc, out, files, pid, verdict, width, last_shown(rows))
 }
 
 /// Puts the table of evidence of the session with this pid at the end, a line for each row under a heading; nothing

@@ -5,7 +5,7 @@ ghost use Rattle.std.specs.Str.{IsUtf8, chars};
 ghost use Rattle.aud_explanation.specs.Page.{columns, fits, word_fits, ends_line, placed, next_column, laid, laid_line, blanks, to_left, to_right};
 ghost use Rattle.aud_explanation.specs.Private.Front.{is_plain, stays_together};
 
-use crate::escape::{is_format, push_shown};
+use crate::escape::{is_hidden, push_shown};
 use std::alloc::AllocError;
 
 /// How many columns a line has at most.
@@ -22,8 +22,8 @@ fn columns(c: char) -> usize
         2
     } else if c.is_control() {
         4
-    } else if is_format(c) {
-        8
+    } else if is_hidden(c) {
+        if (c as u32) < 65536 { 8 } else { 10 }
     } else {
         1
     }

@@ -1,56 +1,112 @@
 //! What a record says, in words, and of which session.
 ghost use Rattle.std.specs.Prelude.{◌≡◌, ◌++◌, OnOk, string_bytes};
 ghost use Rattle.std.specs.Option.{option_copied};
-ghost use Rattle.aud_explanation.specs.Record.{other_session, of_words, record_text, pid_words, after_words, asks_words, names_words, reply_words, takes_up, takes_words};
+ghost use Rattle.aud_explanation.specs.Record.{other_session, of_words, record_text, pid_words, after_words, asks_words, entry_words, names_words, open_words, reply_words, takes_up, takes_words};
 
+use crate::name::{Names, push_name};
 use aud_rows::Says;
-use std::alloc::AllocError;
+use std::alloc::{AllocError, Global};
 
 /// Puts the words for the session of a reply at the end.
-fn push_pid(out: &mut String, pid: Option<&str>) -> Result<(), AllocError>
-    ensures { OnOk result (string_bytes out.new ≡ string_bytes out.old ++ pid_words pid.entry) }
+fn push_pid(
+    alloc: Global,
+    out: &mut String,
+    names: Names,
+    pid: Option<&str>,
+) -> Result<(), AllocError>
+    ensures { OnOk result (string_bytes out.new
+        ≡ string_bytes out.old ++ pid_words names pid.entry) }
 {
     match pid {
-        Some(pid) => write!(out, ", pid {pid}"),
-        None => write!(out, ", no pid"),
+        Some(pid) => {
+            out.push_str(", pid ")?;
+            push_name(alloc, out, names, pid)
+        }
+        None => out.push_str(", no pid"),
     }
 }
 
 /// Puts the words for where a client asks to go on at the end.
-fn push_after(out: &mut String, off: Option<&str>) -> Result<(), AllocError>
-    ensures { OnOk result (string_bytes out.new ≡ string_bytes out.old ++ after_words off.entry) }
+fn push_after(
+    alloc: Global,
+    out: &mut String,
+    names: Names,
+    off: Option<&str>,
+) -> Result<(), AllocError>
+    ensures { OnOk result (string_bytes out.new
+        ≡ string_bytes out.old ++ after_words names off.entry) }
 {
     match off {
-        Some(off) => write!(out, " after {off}"),
-        None => write!(out, ", no offset"),
+        Some(off) => {
+            out.push_str(" after ")?;
+            push_name(alloc, out, names, off)
+        }
+        None => out.push_str(", no offset"),
     }
 }
 
 /// Puts what a client asks for at the end.
-fn push_asks(out: &mut String, conn: u64, pid: &str, off: Option<&str>) -> Result<(), AllocError>
+fn push_asks(
+    alloc: Global,
+    out: &mut String,
+    names: Names,
+    conn: u64,
+    pid: &str,
+    off: Option<&str>,
+) -> Result<(), AllocError>
     ensures { OnOk result (string_bytes out.new
-        ≡ string_bytes out.old ++ asks_words conn pid.now off.entry) }
+        ≡ string_bytes out.old ++ asks_words names conn pid.now off.entry) }
 {
-    write!(out, "conn {conn} asks {pid}")?;
-    push_after(out, off)
+    write!(out, "conn {conn} asks ")?;
+    push_name(alloc, out, names, pid)?;
+    push_after(alloc, out, names, off)
 }
 
 /// Puts the names of a reply at the end.
-fn push_names(out: &mut String, sid: &str, pid: Option<&str>) -> Result<(), AllocError>
+fn push_names(
+    alloc: Global,
+    out: &mut String,
+    names: Names,
+    sid: &str,
+    pid: Option<&str>,
+) -> Result<(), AllocError>
     ensures { OnOk result (string_bytes out.new
-        ≡ string_bytes out.old ++ names_words sid.now pid.entry) }
+        ≡ string_bytes out.old ++ names_words names sid.now pid.entry) }
 {
-    write!(out, ", sid {sid}")?;
-    push_pid(out, pid)
+    out.push_str(", sid ")?;
+    push_name(alloc, out, names, sid)?;
+    push_pid(alloc, out, names, pid)
 }
 
 /// Puts what a client is answered at the end.
-fn push_reply(out: &mut String, conn: u64, sid: &str, pid: Option<&str>) -> Result<(), AllocError>
+fn push_reply(
+    alloc: Global,
+    out: &mut String,
+    names: Names,
+    conn: u64,
+    sid: &str,
+    pid: Option<&str>,
+) -> Result<(), AllocError>
     ensures { OnOk result (string_bytes out.new
-        ≡ string_bytes out.old ++ reply_words conn sid.now pid.entry) }
+        ≡ string_bytes out.old ++ reply_words names conn sid.now pid.entry) }
 {
     write!(out, "conn {conn} reply")?;
-    push_names(out, sid, pid)
+    push_names(alloc, out, names, sid, pid)
+}
+
+/// Puts an entry at the end, by its position and its offset.
+fn push_entry(
+    alloc: Global,
+    out: &mut String,
+    names: Names,
+    position: u64,
+    off: &str,
+) -> Result<(), AllocError>
+    ensures { OnOk result (string_bytes out.new
+        ≡ string_bytes out.old ++ entry_words names position off.now) }
+{
+    write!(out, "{position} ")?;
+    push_name(alloc, out, names, off)
 }
 
 /// Puts the words that come first where a node takes several entries at the end.
@@ -62,38 +118,82 @@ fn push_takes_up(out: &mut String) -> Result<(), AllocError>
 }
 
 /// Puts up to which entry a node takes at the end.
-fn push_takes(out: &mut String, position: u64, off: &str) -> Result<(), AllocError>
+fn push_takes(
+    alloc: Global,
+    out: &mut String,
+    names: Names,
+    position: u64,
+    off: &str,
+) -> Result<(), AllocError>
     ensures { OnOk result (string_bytes out.new
-        ≡ string_bytes out.old ++ takes_words position off.now) }
+        ≡ string_bytes out.old ++ takes_words names position off.now) }
 {
     push_takes_up(out)?;
-    write!(out, "{position} {off}")
+    push_entry(alloc, out, names, position, off)
+}
+
+/// Puts the session that opens at the end.
+fn push_open(
+    alloc: Global,
+    out: &mut String,
+    names: Names,
+    sid: &str,
+    nsp: &str,
+    cursor: u64,
+) -> Result<(), AllocError>
+    ensures { OnOk result (string_bytes out.new
+        ≡ string_bytes out.old ++ open_words names sid.now nsp.now cursor) }
+{
+    out.push_str("open, sid ")?;
+    push_name(alloc, out, names, sid)?;
+    out.push_str(", namespace ")?;
+    push_name(alloc, out, names, nsp)?;
+    write!(out, ", cursor {cursor}")
 }
 
 /// Puts what a record says at the end.
-pub(crate) fn push_record(out: &mut String, says: Says<'_>) -> Result<(), AllocError>
-    ensures { OnOk result (string_bytes out.new ≡ string_bytes out.old ++ record_text says.entry) }
+pub(crate) fn push_record(
+    alloc: Global,
+    out: &mut String,
+    names: Names,
+    says: Says<'_>,
+) -> Result<(), AllocError>
+    ensures { OnOk result (string_bytes out.new
+        ≡ string_bytes out.old ++ record_text names says.entry) }
 {
     match says {
-        Says::Entry { position, off } => write!(out, "entry {position} {off}"),
-        Says::Start { cursor } => write!(out, "start, cursor {cursor}"),
-        Says::Take { position, off } => write!(out, "take {position} {off}"),
-        Says::Takes { position, off } => push_takes(out, position, off),
-        Says::Open { sid, nsp, cursor } => {
-            write!(out, "open, sid {sid}, namespace {nsp}, cursor {cursor}")
+        Says::Entry { position, off } => {
+            out.push_str("entry ")?;
+            push_entry(alloc, out, names, position, off)
         }
-        Says::Join { room } => write!(out, "join {room}"),
-        Says::Leave { room } => write!(out, "leave {room}"),
+        Says::Start { cursor } => write!(out, "start, cursor {cursor}"),
+        Says::Take { position, off } => {
+            out.push_str("take ")?;
+            push_entry(alloc, out, names, position, off)
+        }
+        Says::Takes { position, off } => push_takes(alloc, out, names, position, off),
+        Says::Open { sid, nsp, cursor } => push_open(alloc, out, names, sid, nsp, cursor),
+        Says::Join { room } => {
+            out.push_str("join ")?;
+            push_name(alloc, out, names, room)
+        }
+        Says::Leave { room } => {
+            out.push_str("leave ")?;
+            push_name(alloc, out, names, room)
+        }
         Says::Break { turn, cursor } => write!(out, "break {turn}, cursor {cursor}"),
         Says::Back { turn, cursor } => write!(out, "back {turn}, cursor {cursor}"),
         Says::Gone => write!(out, "gone"),
-        Says::Asks { conn, pid, off } => push_asks(out, conn, pid, off),
-        Says::Reply { conn, sid, pid } => push_reply(out, conn, sid, pid),
+        Says::Asks { conn, pid, off } => push_asks(alloc, out, names, conn, pid, off),
+        Says::Reply { conn, sid, pid } => push_reply(alloc, out, names, conn, sid, pid),
         Says::Got {
             conn,
             position,
             off,
-        } => write!(out, "conn {conn} got {position} {off}"),
+        } => {
+            write!(out, "conn {conn} got ")?;
+            push_entry(alloc, out, names, position, off)
+        }
         Says::Lost { conn } => write!(out, "conn {conn} lost"),
         Says::NoPacket { conn } => write!(out, "conn {conn} no packet"),
     }
@@ -108,12 +208,19 @@ pub(crate) fn other_session<'r>(session: Option<&'r str>, pid: &str) -> Option<&
 }
 
 /// Puts that session at the end, in words.
-pub(crate) fn push_of(out: &mut String, session: Option<&str>) -> Result<(), AllocError>
+pub(crate) fn push_of(
+    alloc: Global,
+    out: &mut String,
+    session: Option<&str>,
+) -> Result<(), AllocError>
     ensures { OnOk result (string_bytes out.new
         ≡ string_bytes out.old ++ of_words (option_copied session.entry)) }
 {
     match session {
-        Some(session) => write!(out, " of {session}"),
+        Some(session) => {
+            out.push_str(" of ")?;
+            push_name(alloc, out, Names::Short, session)
+        }
         None => Ok(()),
     }
 }

@@ -2,9 +2,10 @@
 ghost use Rattle.std.specs.Prelude.{◌≡◌, ◌++◌, OnOk, flat_map, length, string_bytes};
 ghost use Rattle.std.specs.Option.{option_copied};
 ghost use Rattle.aud_explanation.specs.Evidence.{row_text};
-ghost use Rattle.aud_explanation.specs.RefusedText.{instead_words, count_words, head_line, head_text, reply_text, missed_line, missed_text, all_missed_text, refused_text, all_refused_text};
+ghost use Rattle.aud_explanation.specs.RefusedText.{instead_words, count_words, head_line, head_text, reply_text, missed_line, missed_text, all_missed_text, refused_text, each_refused_text, all_refused_text};
 
 use crate::long::{first_shown, last_shown, left_out, push_more};
+use crate::name::{Names, push_name};
 use crate::refused::{Missed, RefusedRecovery};
 use crate::text::evidence::push_row;
 use crate::text::page::push_line;
@@ -14,13 +15,16 @@ use aud_verdict::Verdict;
 use std::alloc::{AllocError, Global};
 
 /// Puts the session that a client got instead at the end.
-fn push_instead(line: &mut String, instead: Option<&str>) -> Result<(), AllocError>
+fn push_instead(alloc: Global, line: &mut String, instead: Option<&str>) -> Result<(), AllocError>
     ensures { OnOk result (string_bytes line.new
         ≡ string_bytes line.old ++ instead_words (option_copied instead.entry)) }
 {
     match instead {
-        Some(pid) => write!(line, "got session {pid}"),
-        None => write!(line, "got no session"),
+        Some(pid) => {
+            line.push_str("got session ")?;
+            push_name(alloc, line, Names::Short, pid)
+        }
+        None => line.push_str("got no session"),
     }
 }
 
@@ -48,7 +52,7 @@ fn push_head(
 {
     let mut line = String::new(alloc);
     line.push_str("refused recovery: ")?;
-    push_instead(&mut line, refused.instead)?;
+    push_instead(alloc, &mut line, refused.instead)?;
     push_count(&mut line, refused.missed)?;
     push_line(out, line.as_str())
 }
@@ -77,8 +81,9 @@ fn push_missed(alloc: Global, out: &mut String, missed: &Missed<'_>) -> Result<(
     ensures { OnOk result (string_bytes out.new ≡ string_bytes out.old ++ missed_text missed.now) }
 {
     let mut line = String::new(alloc);
-    let (position, off) = (missed.position, missed.off);
-    write!(&mut line, "    missed entry {position} {off}")?;
+    let position = missed.position;
+    write!(&mut line, "    missed entry {position} ")?;
+    push_name(alloc, &mut line, Names::Short, missed.off)?;
     push_line(out, line.as_str())
 }
 
@@ -131,7 +136,26 @@ fn push_one(
     push_all_missed(alloc, out, refused.missed)
 }
 
-/// Puts the refused recoveries of the session with this pid at the end.
+/// Puts these refused recoveries of the session with this pid at the end.
+fn push_each(
+    alloc: Global,
+    out: &mut String,
+    files: &[InputFile],
+    pid: &str,
+    verdict: &Verdict,
+    recoveries: &[RefusedRecovery<'_, '_>],
+) -> Result<(), AllocError>
+    ensures { OnOk result (string_bytes out.new
+        ≡ string_bytes out.old
+        ++ each_refused_text files.now pid.now verdict.now recoveries.now) }
+{
+    for refused in recoveries {
+        push_one(alloc, out, files, pid, verdict, refused)?;
+    }
+    Ok(())
+}
+
+/// Puts the refused recoveries of the session with this pid at the end: of more than 200 the first 100 and the last 100.
 pub(crate) fn push_refused(
     alloc: Global,
     out: &mut String,
@@ -144,8 +168,7 @@ pub(crate) fn push_refused(
         ≡ string_bytes out.old
         ++ all_refused_text files.now pid.now verdict.now recoveries.now) }
 {
-    for refused in recoveries {
-        push_one(alloc, out, files, pid, verdict, refused)?;
-    }
-    Ok(())
+    push_each(alloc, out, files, pid, verdict, first_shown(recoveries))?;
+    push_more(out, left_out(recoveries))?;
+    push_each(alloc, out, files, pid, verdict, last_shown(recoveries))
 }

@@ -2,21 +2,33 @@
 ghost use Rattle.std.specs.Prelude.{◌≡◌, ◌++◌, OnOk, string_bytes};
 ghost use Rattle.aud_explanation.specs.Verdict.{verdict_words, class_words, verdict_text};
 
+use crate::name::{Names, push_name};
 use crate::text::page::push_line;
 use aud_cert::Class;
 use aud_verdict::Verdict;
 use std::alloc::{AllocError, Global};
 
-/// Puts the words of the verdict at the end, as an audit prints them.
-fn push_words(line: &mut String, pid: &str, verdict: &Verdict) -> Result<(), AllocError>
+/// Puts the words of the verdict at the end, as an audit prints them, but for a pid that isn't plain.
+fn push_words(
+    alloc: Global,
+    line: &mut String,
+    pid: &str,
+    verdict: &Verdict,
+) -> Result<(), AllocError>
     ensures { OnOk result (string_bytes line.new
         ≡ string_bytes line.old ++ verdict_words pid.now verdict.now) }
 {
     match verdict {
         Verdict::Yes { got, tail, turns } => {
-            write!(line, "yes {pid} got={got} tail={tail} turns={turns}")
+            line.push_str("yes ")?;
+            push_name(alloc, line, Names::Short, pid)?;
+            write!(line, " got={got} tail={tail} turns={turns}")
         }
-        Verdict::No(fault) => write!(line, "no {pid} {fault}"),
+        Verdict::No(fault) => {
+            line.push_str("no ")?;
+            push_name(alloc, line, Names::Short, pid)?;
+            write!(line, " {fault}")
+        }
     }
 }
 
@@ -30,7 +42,7 @@ fn push_class(line: &mut String, class: Option<Class>) -> Result<(), AllocError>
     }
 }
 
-/// Puts the line of the verdict at the end: as an audit prints it, and the class.
+/// Puts the line of the verdict at the end, and the class.
 pub(crate) fn push_verdict(
     alloc: Global,
     out: &mut String,
@@ -42,7 +54,7 @@ pub(crate) fn push_verdict(
         ≡ string_bytes out.old ++ verdict_text pid.now verdict.now class) }
 {
     let mut line = String::new(alloc);
-    push_words(&mut line, pid, verdict)?;
+    push_words(alloc, &mut line, pid, verdict)?;
     push_class(&mut line, class)?;
     push_line(out, line.as_str())
 }

@@ -155,8 +155,8 @@ client c1, namespace /, connection 1, turns 1, delivery not judged
     the same of 1 more session: Q
     turn 0  a  5 open, cursor 0 == 6 log ends, cursor 0
     client  9 reply
-cause not-a-packet (fits, line 11): A record of the client's tap is no packet: the first byte of the
-        message is no type of a Socket.IO packet.
+cause not-a-packet (the one cause known, line 11): A record of the client's tap is no packet: the
+        first byte of the message is no type of a Socket.IO packet.
 do: record what came as it came: a text as a text, and bytes as bytes.
 
 sessions: 2, yes: 0, no: 2

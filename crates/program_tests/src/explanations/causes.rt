@@ -7,55 +7,55 @@ static FAULTS: [&str; 13] = [
     r#"explain --json --pid p1
 1 1 lose c1@1 e:a t1 x1
 -> Ok(SomeNo)
-*"causes":[{"id":"open-not-recorded",*"of":"fault","of_line":null,"state":"fits","sure":false,*}],"class":*"fault":"NOLOG",*"refused":[],"refuted":["node-not-tapped"],"tail":*"#,
+*"causes":[{"id":"open-not-recorded",*"of":"fault","of_line":null,"state":"fits","sure":false,*}],"causes_left":0,"class":*"fault":"NOLOG",*"refused":[],"refused_left":0,"refuted":["node-not-tapped"],"tail":*"#,
     r#"explain --json --pid p1
 2 1 c1@1 e:a t1 lose x1 t2 r1@2
 -> Ok(SomeNo)
-*"causes":[{"id":"missing-break",*"of":"fault","of_line":null,"state":"certain","sure":true,*}],"class":*"fault":"CHAIN",*"refused":[],"refuted":["node-not-tapped","missing-back","cleared-after-break","turn-not-stored","recovered-twice","opened-twice"],"tail":*"#,
+*"causes":[{"id":"missing-break",*"of":"fault","of_line":null,"state":"certain","sure":true,*}],"causes_left":0,"class":*"fault":"CHAIN",*"refused":[],"refused_left":0,"refuted":["node-not-tapped","missing-back","cleared-after-break","turn-not-stored","recovered-twice","opened-twice"],"tail":*"#,
     r#"explain --json --pid p1
 1 1 c1@1 e:a repeat t1
 -> Ok(SomeNo)
-*"causes":[{"id":"entry-taken-again",*"of":"fault","of_line":null,"state":"certain","sure":true,*}],"class":*"fault":"ORDER",*"refused":[],"refuted":["no-start","restarted-in-old-log","entries-skipped-by-node","not-in-stream"],"tail":*"#,
+*"causes":[{"id":"entry-taken-again",*"of":"fault","of_line":null,"state":"certain","sure":true,*}],"causes_left":0,"class":*"fault":"ORDER",*"refused":[],"refused_left":0,"refuted":["no-start","restarted-in-old-log","entries-skipped-by-node","not-in-stream"],"tail":*"#,
     r#"explain --json --pid p1
 1 1 u1@1 e:a t1
 -> Ok(SomeNo)
-*"causes":[{"id":"no-client-tap",*"of":"fault","of_line":null,"state":"fits","sure":false,*},{"id":"reply-missing",*"of":"fault","of_line":null,"state":"fits","sure":false,*}],"class":*"fault":"CLIENT",*"refused":[],"refuted":["two-taps","client-tap-has-no-packets"],"tail":*"#,
+*"causes":[{"id":"no-client-tap",*"of":"fault","of_line":null,"state":"fits","sure":false,*},{"id":"reply-missing",*"of":"fault","of_line":null,"state":"fits","sure":false,*}],"causes_left":0,"class":*"fault":"CLIENT",*"refused":[],"refused_left":0,"refuted":["two-taps","client-tap-has-no-packets"],"tail":*"#,
     r#"explain --json --pid p1
 1 1 m1@1 e:a t1
 -> Ok(SomeNo)
-*"causes":[{"id":"sid-differs",*"of":"fault","of_line":null,"state":"certain","sure":true,*}],"class":*"fault":"NAMES",*"refused":[],"refuted":["namespace-differs"],"tail":*"#,
+*"causes":[{"id":"sid-differs",*"of":"fault","of_line":null,"state":"certain","sure":true,*}],"causes_left":0,"class":*"fault":"NAMES",*"refused":[],"refused_left":0,"refuted":["namespace-differs"],"tail":*"#,
     r#"explain --json --pid p1
 1 1 c1@1 e:a e:b garble1 t1 t1
 -> Ok(SomeNo)
-*"causes":[{"id":"not-a-packet",*"of":"fault","of_line":null,"state":"fits","sure":false,*}],"class":*"fault":"FRAME",*"refused":[],"refuted":[],"tail":*"#,
+*"causes":[{"id":"not-a-packet",*"of":"fault","of_line":null,"state":"fits","sure":false,*}],"causes_left":0,"class":*"fault":"FRAME",*"refused":[],"refused_left":0,"refuted":[],"tail":*"#,
     r#"explain --json --pid p2
 1 1 u1@1 e:a t1 f1 c1@1 e:b t1
 -> Ok(SomeNo)
-*"causes":[{"id":"tap-began-late",*"of":"fault","of_line":null,"state":"certain","sure":true,*}],"class":*"fault":"ORPHAN",*"refused":[],"refuted":["cut-before-reply","reply-missing","after-disconnect","out-after-answer","second-connect","reply-without-pid"],"tail":*"#,
+*"causes":[{"id":"tap-began-late",*"of":"fault","of_line":null,"state":"certain","sure":true,*}],"causes_left":0,"class":*"fault":"ORPHAN",*"refused":[],"refused_left":0,"refuted":["cut-before-reply","reply-missing","after-disconnect","out-after-answer","second-connect","reply-without-pid"],"tail":*"#,
     r#"explain --json --pid p1
 1 1 c1@1 e:hi alter1 t1
 -> Ok(SomeNo)
-*"causes":[{"id":"altered",*"of":"fault","of_line":null,"state":"fits","sure":false,*},{"id":"another-event",*"of":"fault","of_line":null,"state":"fits","sure":false,*}],"class":*"fault":"CONTENT",*"refused":[],"refuted":["another-encoder","attachments-reordered"],"tail":*"#,
+*"causes":[{"id":"altered",*"of":"fault","of_line":null,"state":"fits","sure":false,*},{"id":"another-event",*"of":"fault","of_line":null,"state":"fits","sure":false,*}],"causes_left":0,"class":*"fault":"CONTENT",*"refused":[],"refused_left":0,"refuted":["another-encoder","attachments-reordered"],"tail":*"#,
     r#"explain --json --pid p1
 1 1 c1@1 lose j1:r e:a:r t1
 -> Ok(SomeNo)
-*"causes":[{"id":"extra-live",*"of":"fault","of_line":null,"state":"fits","sure":false,*},{"id":"join-missing",*"of":"fault","of_line":null,"state":"fits","sure":false,*}],"class":*"fault":"EXTRA",*"refused":[],"refuted":["node-behind-break","rooms-at-break","offset-of-another-session","log-ended-early","late-leave","before-birth","leave-missing","recovery-not-recorded"],"tail":*"#,
+*"causes":[{"id":"extra-live",*"of":"fault","of_line":null,"state":"fits","sure":false,*},{"id":"join-missing",*"of":"fault","of_line":null,"state":"fits","sure":false,*}],"causes_left":0,"class":*"fault":"EXTRA",*"refused":[],"refused_left":0,"refuted":["node-behind-break","rooms-at-break","offset-of-another-session","log-ended-early","late-leave","before-birth","leave-missing","recovery-not-recorded"],"tail":*"#,
     r#"explain --json --pid p1
 1 1 c1@1 e:a e:b double1 t1 t1
 -> Ok(SomeNo)
-*"causes":[{"id":"doubled-live",*"of":"fault","of_line":null,"state":"certain","sure":true,*}],"class":*"fault":"DOUBLED",*"refused":[],"refuted":["node-behind-break","sent-again-after-replay","replay-includes-offset","stale-offset","body-came-twice","doubled-in-replay","recovery-not-recorded"],"tail":*"#,
+*"causes":[{"id":"doubled-live",*"of":"fault","of_line":null,"state":"certain","sure":true,*}],"causes_left":0,"class":*"fault":"DOUBLED",*"refused":[],"refused_left":0,"refuted":["node-behind-break","sent-again-after-replay","replay-includes-offset","stale-offset","body-came-twice","doubled-in-replay","recovery-not-recorded"],"tail":*"#,
     r#"explain --json --pid p1
 1 1 c1@1 e:a e:b hold1 t1 t1
 -> Ok(SomeNo)
-*"causes":[{"id":"swapped-live",*"of":"fault","of_line":null,"state":"certain","sure":true,*}],"class":*"fault":"SWAPPED",*"refused":[],"refuted":["node-behind-break","swapped-in-replay","recovery-not-recorded"],"tail":*"#,
+*"causes":[{"id":"swapped-live",*"of":"fault","of_line":null,"state":"certain","sure":true,*}],"causes_left":0,"class":*"fault":"SWAPPED",*"refused":[],"refused_left":0,"refuted":["node-behind-break","swapped-in-replay","recovery-not-recorded"],"tail":*"#,
     r#"explain --json --pid p1
 1 1 c1@1 j1:r e:a:r e:b drop1 t1 t1
 -> Ok(SomeNo)
-*"causes":[{"id":"lost-live",*"of":"fault","of_line":null,"state":"fits","sure":false,*},{"id":"leave-missing",*"of":"fault","of_line":null,"state":"fits","sure":false,*}],"class":*"fault":"LOST",*"refused":[],"refuted":["rooms-at-break","skipped-in-window","offset-of-another-session","frame-not-recorded","recovery-not-recorded"],"tail":*"#,
+*"causes":[{"id":"lost-live",*"of":"fault","of_line":null,"state":"fits","sure":false,*},{"id":"leave-missing",*"of":"fault","of_line":null,"state":"fits","sure":false,*}],"causes_left":0,"class":*"fault":"LOST",*"refused":[],"refused_left":0,"refuted":["rooms-at-break","skipped-in-window","offset-of-another-session","frame-not-recorded","recovery-not-recorded"],"tail":*"#,
     r#"explain --json --pid p1
 2 1 c1@1 e:a t1 x1 e:b t2 t2 o1@2
 -> Ok(SomeNo)
-*"causes":[{"id":"unknown-offset",*"of":"fault","of_line":null,"state":"certain","sure":true,*}],"class":*"fault":"WINDOW",*"refused":[],"refuted":["no-offset","stale-offset","offset-of-another-session"],"tail":*"#,
+*"causes":[{"id":"unknown-offset",*"of":"fault","of_line":null,"state":"certain","sure":true,*}],"causes_left":0,"class":*"fault":"WINDOW",*"refused":[],"refused_left":0,"refuted":["no-offset","stale-offset","offset-of-another-session"],"tail":*"#,
 ];
 
 /// Causes that hold beside others; none that holds; and the cause of a refused recovery.
@@ -167,12 +167,12 @@ c1 {"k":"conn","c":2}
 c1 {"k":"out","t":"40{\"pid\":\"P\"}"}
 c1 {"k":"in","t":"40{\"sid\":\"s2\",\"pid\":\"Q\"}"}
 -> Ok(SomeNo)
-*"causes":[{"id":"no-offset","lines":[13],"of":"refused","of_line":13,"state":"certain","sure":true,*}],"class":*"refuted":["node-not-tapped","missing-back","missing-break","cleared-after-break","turn-not-stored","recovered-twice","opened-twice"],"tail":*"#,
+*"causes":[{"id":"no-offset","lines":[13],"of":"refused","of_line":13,"state":"certain","sure":true,*}],"causes_left":0,"class":*"refuted":["node-not-tapped","missing-back","missing-break","cleared-after-break","turn-not-stored","recovered-twice","opened-twice"],"tail":*"#,
     // A session that is answered yes.
     r#"explain --json --pid P
 @YES
 -> Ok(AllYes)
-*"causes":[],"class":null,*"refuted":[],"tail":0,*"#,
+*"causes":[],"causes_left":0,"class":null,*"refuted":[],"tail":0,*"#,
 ];
 
 #[test]

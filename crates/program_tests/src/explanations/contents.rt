@@ -104,7 +104,7 @@ sessions: *"#,
 @TEXTS
 c1 {"k":"in","t":"42[\"new\",\"o2\"]"}
 -> Ok(SomeNo)
-*"causes":[{"id":"altered",*"state":"fits",*},{"id":"another-event",*"state":"fits",*}],"class":*"refuted":["another-encoder","attachments-reordered"],"tail":*"#,
+*"causes":[{"id":"altered",*"state":"fits",*},{"id":"another-event",*"state":"fits",*}],"causes_left":0,"class":*"refuted":["another-encoder","attachments-reordered"],"tail":*"#,
     // The attachments are the entry's, and the text is written otherwise.
     r#"explain --json
 @ATTACHMENTS
@@ -112,7 +112,7 @@ c1 {"k":"in","t":"452-[\"up\",{\"num\":0,\"_placeholder\":true},{\"num\":1,\"_pl
 c1 {"k":"inb","b":"AQI="}
 c1 {"k":"inb","b":"Aw=="}
 -> Ok(SomeNo)
-*"causes":[{"id":"another-encoder",*"state":"certain",*}],"class":*"refuted":["attachments-reordered","altered","another-event"],"tail":*"#,
+*"causes":[{"id":"another-encoder",*"state":"certain",*}],"causes_left":0,"class":*"refuted":["attachments-reordered","altered","another-event"],"tail":*"#,
 ];
 
 #[test]

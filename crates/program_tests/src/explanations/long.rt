@@ -1,7 +1,8 @@
 //! Explanations with long lists: of more than 200 elements the first 100 and the last 100 are written.
+use aud_cert::Fault;
 use aud_explanation::{
-    ClientEvent, Explanation, Happens, Missed, RefusedRecovery, TurnBegin, TurnEnd, TurnShown,
-    explanation_json, push_text,
+    Cause, CauseOf, CauseState, ClientEvent, Explanation, Happens, Missed, RefusedRecovery,
+    TurnBegin, TurnEnd, TurnShown, explanation_json, push_text,
 };
 use aud_rows::{Role, Row, Says};
 use aud_verdict::Verdict;
@@ -108,13 +109,13 @@ fn json_of(alloc: Global, case: &(u64, u64, u64, u64, u64)) -> Result<String, Al
     let &(past, first_past, left, from, _) = case;
     let mut out = String::from_str(
         alloc,
-        r#"{"alike":[],"also":[],"also_left":0,"at_frame":null,"causes":[],"class":null,"client":null,"conn":null,"due":null,"events":["#,
+        r#"{"alike":[],"also":[],"also_left":0,"at_frame":null,"causes":[],"causes_left":0,"class":null,"client":null,"conn":null,"due":null,"events":["#,
     )?;
     push_items(&mut out, 1001, first_past)?;
     push_items(&mut out, from, past)?;
     write!(&mut out, "],\"events_left\":{left},")?;
     out.push_str(
-        r#""evidence":[],"fault":null,"got":null,"nsp":null,"off":null,"pid":"P","refused":[],"refuted":[],"tail":null,"turns":[],"turns_left":0,"v":1,"verdict":"yes"}"#,
+        r#""evidence":[],"evidence_left":0,"fault":null,"got":null,"nsp":null,"off":null,"pid":"P","refused":[],"refused_left":0,"refuted":[],"tail":null,"turns":[],"turns_left":0,"v":1,"verdict":"yes"}"#,
     )?;
     Ok(out)
 }
@@ -223,11 +224,13 @@ fn push_missed_items(out: &mut String, from: u64, past: u64) -> Result<(), Alloc
 fn lists_json(alloc: Global) -> Result<String, AllocError> {
     let mut out = String::from_str(
         alloc,
-        r#"{"alike":[],"also":[],"also_left":0,"at_frame":null,"causes":[],"class":"delivery","client":null,"conn":null,"due":null,"events":[],"events_left":0,"evidence":[],"fault":null,"got":null,"nsp":null,"off":null,"pid":"P","refused":[{"ask":{"file":null,"file_line":null,"line":9,"of":null,"role":"ask","says":"conn 1 asks P, no offset","tap":"c"},"instead":null,"missed":["#,
+        r#"{"alike":[],"also":[],"also_left":0,"at_frame":null,"causes":[],"causes_left":0,"class":"delivery","client":null,"conn":null,"due":null,"events":[],"events_left":0,"evidence":[],"evidence_left":0,"fault":null,"got":null,"nsp":null,"off":null,"pid":"P","refused":[{"ask":{"file":null,"file_line":null,"line":9,"of":null,"role":"ask","says":"conn 1 asks P, no offset","tap":"c"},"instead":null,"missed":["#,
     )?;
     push_missed_items(&mut out, 0, 100)?;
     push_missed_items(&mut out, 900, 1000)?;
-    out.push_str(r#"],"missed_left":800,"reply":null}],"refuted":[],"tail":null,"turns":["#)?;
+    out.push_str(
+        r#"],"missed_left":800,"reply":null}],"refused_left":0,"refuted":[],"tail":null,"turns":["#,
+    )?;
     push_turn_items(&mut out, 0, 100)?;
     push_turn_items(&mut out, 101, 201)?;
     out.push_str(r#"],"turns_left":1,"v":1,"verdict":"yes"}"#)?;
@@ -263,5 +266,168 @@ fn turns_and_what_was_missed(rt: HostRuntime) -> Result<(), Fail> {
     let (wanted_text, wanted_json) = (lists_text(alloc)?, lists_json(alloc)?);
     assert_eq!(rt; text.as_str(), wanted_text.as_str());
     assert_eq!(rt; json.as_str(), wanted_json.as_str());
+    Ok(())
+}
+
+/// 301 rows: each says that a turn of its number begins, on the line of its number; it shows the fault in row 150, and in
+/// row 120 that which it contradicts.
+fn all_rows(alloc: Global) -> Result<Vec<Row<'static>>, AllocError> {
+    let mut rows = Vec::new(alloc);
+    for turn in 0u16..301 {
+        let role = match turn {
+            120 => Role::Earlier,
+            150 => Role::Fault,
+            _ => Role::Back,
+        };
+        rows.push(Row {
+            line: u64::from(turn),
+            tap: "a",
+            session: Some("P"),
+            says: Says::Back { turn, cursor: 0 },
+            role,
+        })?;
+    }
+    Ok(rows)
+}
+
+/// 201 causes of the fault, each of its own line.
+fn all_causes<'l>(alloc: Global, lines: &'l [u64]) -> Result<Vec<Cause<'l>>, AllocError> {
+    let mut causes = Vec::new(alloc);
+    for n in 0..201usize {
+        causes.push(Cause {
+            id: "missing-break",
+            of: CauseOf::Fault,
+            state: CauseState::Holds,
+            lines: &lines[n..n + 1],
+            why: "w",
+            todo: "t",
+        })?;
+    }
+    Ok(causes)
+}
+
+/// Adds the rows that begin turns.
+fn push_rows(out: &mut String, from: u64, past: u64) -> Result<(), AllocError> {
+    for line in from..past {
+        writeln!(out, "{line:>8} a    back {line}, cursor 0")?;
+    }
+    Ok(())
+}
+
+/// Adds the causes.
+fn push_causes(out: &mut String, from: u64, past: u64) -> Result<(), AllocError> {
+    for line in from..past {
+        writeln!(out, "cause missing-break (holds, line {line}): w")?;
+        writeln!(out, "do: t")?;
+    }
+    Ok(())
+}
+
+/// The text that is to be written of the rows, of the refused recoveries, and of the causes.
+fn evidence_text(alloc: Global) -> Result<String, AllocError> {
+    let mut out = String::from_str(
+        alloc,
+        "no P CHAIN [recording]\nno one client, turns 0, delivery not judged\n    line tap  record\n",
+    )?;
+    push_rows(&mut out, 0, 100)?;
+    out.push_str("    .. 99 more ..\n")?;
+    out.push_str("     120 a    back 120, cursor 0  earlier\n")?;
+    out.push_str("     150 a    back 150, cursor 0  <- does not fit in the turns\n")?;
+    push_rows(&mut out, 201, 301)?;
+    push_causes(&mut out, 0, 100)?;
+    out.push_str("    .. 1 more ..\n")?;
+    push_causes(&mut out, 101, 201)?;
+    Ok(out)
+}
+
+#[test]
+fn evidence_and_causes(rt: HostRuntime) -> Result<(), Fail> {
+    let alloc = rt.alloc();
+    let mut lines = Vec::new(alloc);
+    for line in 0u64..201 {
+        lines.push(line)?;
+    }
+    let (rows, causes) = (all_rows(alloc)?, all_causes(alloc, lines.as_slice())?);
+    let verdict = Verdict::No(Fault::Chain);
+    let explanation = Explanation {
+        evidence: rows.as_slice(),
+        causes: causes.as_slice(),
+        ..told(&verdict, &[], &[], &[])
+    };
+    let mut text = String::new(alloc);
+    push_text(alloc, &mut text, &[], &explanation)?;
+    let wanted = evidence_text(alloc)?;
+    assert_eq!(rt; text.as_str(), wanted.as_str());
+    let json = explanation_json(alloc, &[], &explanation)?;
+    let json = json.as_str();
+    assert!(rt; json.contains("],\"evidence_left\":99,\"fault\":"));
+    assert!(rt; json.contains("],\"causes_left\":1,\"class\":"));
+    Ok(())
+}
+
+#[test]
+fn refused_recoveries(rt: HostRuntime) -> Result<(), Fail> {
+    let alloc = rt.alloc();
+    let mut refused = Vec::new(alloc);
+    for line in 0u64..201 {
+        let ask = Row {
+            line,
+            tap: "c",
+            session: None,
+            says: Says::Asks {
+                conn: 1,
+                pid: "P",
+                off: None,
+            },
+            role: Role::Ask,
+        };
+        refused.push(RefusedRecovery {
+            ask,
+            reply: None,
+            instead: Some("a b"),
+            missed: None,
+        })?;
+    }
+    let verdict = VERDICT;
+    let explanation = told(&verdict, &[], &[], refused.as_slice());
+    let mut text = String::new(alloc);
+    push_text(alloc, &mut text, &[], &explanation)?;
+    let mut wanted = String::from_str(
+        alloc,
+        "yes P got=1 tail=0 turns=1 [delivery]\nno one client, turns 0, delivery not judged\n",
+    )?;
+    for line in 0u64..201 {
+        if line == 100 {
+            wanted.push_str("    .. 1 more ..\n")?;
+            continue;
+        }
+        wanted.push_str("refused recovery: got session \"a b\", missed: not known\n")?;
+        writeln!(&mut wanted, "{line:>8} c  conn 1 asks P, no offset")?;
+    }
+    assert_eq!(rt; text.as_str(), wanted.as_str());
+    let json = explanation_json(alloc, &[], &explanation)?;
+    assert!(rt; json.as_str().contains("],\"refused_left\":1,\"refuted\":"));
+    Ok(())
+}
+
+/// A session and a namespace with long names: in text the first 100 and the last 100 characters, in JSON all.
+#[test]
+fn long_names(rt: HostRuntime) -> Result<(), Fail> {
+    let alloc = rt.alloc();
+    let mut pid = String::new(alloc);
+    for n in 0..300 {
+        pid.push_str(if n < 100 { "a" } else { "b" })?;
+    }
+    let verdict = VERDICT;
+    let explanation = Explanation {
+        pid: pid.as_str(),
+        ..told(&verdict, &[], &[], &[])
+    };
+    let mut text = String::new(alloc);
+    push_text(alloc, &mut text, &[], &explanation)?;
+    assert!(rt; text.as_str().starts_with("yes\n        \"aaaa"));
+    assert!(rt; text.as_str().contains(" .. 100 more .."));
+    let json = explanation_json(alloc, &[], &explanation)?;
+    assert!(rt; json.as_str().contains(pid.as_str()));
     Ok(())
 }

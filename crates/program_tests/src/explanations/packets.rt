@@ -30,8 +30,8 @@ client c1, namespace /, connection 1, turns 1, delivery not judged
       12 c1   conn 1 no packet  <- no packet
     turn 0  a  5 open, cursor 0 == take 1 == 7 log ends, cursor 1
     client  10 reply  11 got 1
-cause not-a-packet (fits, line 12): A record of the client's tap is no packet: the first byte of the
-        message is no type of a Socket.IO packet.
+cause not-a-packet (the one cause known, line 12): A record of the client's tap is no packet: the
+        first byte of the message is no type of a Socket.IO packet.
 do: record what came as it came: a text as a text, and bytes as bytes.
 
 sessions: *"#,

@@ -96,8 +96,8 @@ client c1, namespace /, connection 1, turns 1, delivery not judged
       11 c1   conn 1 no packet  <- no packet
     turn 0  n1  5 open, cursor 0 == take 1-2 == 12 log ends, cursor 2
     client  7 reply  13 got 2
-cause not-a-packet (fits, line 11): A record of the client's tap is no packet: the first byte is no
-        type of an Engine.IO packet.
+cause not-a-packet (the one cause known, line 11): A record of the client's tap is no packet: the
+        first byte is no type of an Engine.IO packet.
 do: record what came as it came: a text as a text, and bytes as bytes.
 
 sessions: *"#,
@@ -113,8 +113,8 @@ client c1, namespace /, connection 1, turns 1, delivery not judged
       14 c1   conn 1 no packet  <- no packet
     turn 0  n1  5 open, cursor 0 == take 1-2 == 13 log ends, cursor 2
     client  7 reply
-cause not-a-packet (fits, line 14): A record of the client's tap is no packet: a text comes where
-        attachments are awaited.
+cause not-a-packet (the one cause known, line 14): A record of the client's tap is no packet: a text
+        comes where attachments are awaited.
 do: look at the records before this one: a packet's attachment is not among them.
 
 sessions: *"#,

@@ -1,7 +1,7 @@
 use Rattle.std.proofs.Common.{string_bytes}
 use Rattle.aud_explanation.specs.RefusedText.{refused_text}
 use Rattle.aud_explanation.proofs.Each.{each-more}
-use Rattle.aud_explanation.proofs.text.refused.push_refused.Goals as goal
+use Rattle.aud_explanation.proofs.text.refused.push_each.Goals as goal
 
 pub loop-refused-preserved : goal.loop-refused-preserved
 loop-refused-preserved c =

@@ -1,0 +1,174 @@
+//! Names that others chose, as they stand in a line.
+ghost use Rattle.std.specs.Prelude.{◌≡◌, ◌++◌, IfOk, OnOk, chars, flat_map, string_bytes};
+ghost use Rattle.std.specs.List.{list_all};
+ghost use Rattle.aud_explanation.specs.Named.{NamesApart, cut_name, in_quotes, is_of_plain, is_plain_name, is_sign, name_of, name_words, quoted, short_of, whole_name, whole_of};
+
+use crate::escape::is_hidden;
+use crate::long::{first_shown, last_shown, left_out};
+use std::alloc::{AllocError, Global};
+
+/// How much of a long name stands in a line.
+#[derive(Clone, Copy, Debug, PartialEq, Eq, Drop)]
+pub enum Names {
+    /// All of it.
+    Whole,
+    /// Of more than 200 characters the first 100 and the last 100, and how many are left out.
+    Short,
+}
+
+fn is_sign(c: char) -> bool
+    ensures { result ≡ is_sign c }
+{
+    matches!(c, '"' | ',' | '\\')
+}
+
+/// Whether the character may stand in a name without quotes.
+fn is_of_plain(c: char) -> bool
+    ensures { result ≡ is_of_plain c }
+{
+    if c.is_whitespace() || c.is_control() {
+        return false;
+    }
+    if is_hidden(c) {
+        return false;
+    }
+    !is_sign(c)
+}
+
+fn are_plain(characters: &[char]) -> bool
+    ensures { result ≡ list_all is_of_plain characters.now }
+{
+    for c in characters {
+        if !is_of_plain(*c) {
+            return false;
+        }
+    }
+    true
+}
+
+/// Whether a name of these characters stands without quotes.
+fn is_plain_name(characters: &[char]) -> bool
+    ensures { result ≡ is_plain_name characters.now }
+{
+    if characters.is_empty() {
+        return false;
+    }
+    are_plain(characters)
+}
+
+/// Puts a character between quotes at the end.
+fn push_in_quotes(out: &mut String, c: char) -> Result<(), AllocError>
+    ensures { OnOk result (string_bytes out.new ≡ string_bytes out.old ++ in_quotes c) }
+{
+    if c == '"' {
+        out.push_str("\"\"")
+    } else {
+        out.push(c)
+    }
+}
+
+fn push_each(out: &mut String, characters: &[char]) -> Result<(), AllocError>
+    ensures { OnOk result (string_bytes out.new
+        ≡ string_bytes out.old ++ flat_map in_quotes characters.now) }
+{
+    for c in characters {
+        push_in_quotes(out, *c)?;
+    }
+    Ok(())
+}
+
+/// Puts the characters at the end between quotes.
+fn push_quoted(out: &mut String, characters: &[char]) -> Result<(), AllocError>
+    ensures { OnOk result (string_bytes out.new ≡ string_bytes out.old ++ quoted characters.now) }
+{
+    out.push_str("\"")?;
+    push_each(out, characters)?;
+    out.push_str("\"")
+}
+
+/// Puts the first and the last of long characters at the end.
+fn push_cut(out: &mut String, characters: &[char]) -> Result<(), AllocError>
+    ensures { OnOk result (string_bytes out.new ≡ string_bytes out.old ++ cut_name characters.now) }
+{
+    push_quoted(out, first_shown(characters))?;
+    let left = left_out(characters);
+    write!(out, " .. {left} more .. ")?;
+    push_quoted(out, last_shown(characters))
+}
+
+/// Puts the name of these characters at the end.
+fn push_whole(out: &mut String, name: &str, characters: &[char]) -> Result<(), AllocError>
+    ensures { OnOk result (string_bytes out.new
+        ≡ string_bytes out.old ++ whole_of name.now characters.now) }
+{
+    if is_plain_name(characters) {
+        out.push_str(name)
+    } else {
+        push_quoted(out, characters)
+    }
+}
+
+/// The same of a name that is cut where it is long.
+fn push_short(out: &mut String, name: &str, characters: &[char]) -> Result<(), AllocError>
+    ensures { OnOk result (string_bytes out.new
+        ≡ string_bytes out.old ++ short_of name.now characters.now) }
+{
+    if left_out(characters) == 0 {
+        push_whole(out, name, characters)
+    } else {
+        push_cut(out, characters)
+    }
+}
+
+fn push_of(
+    out: &mut String,
+    names: Names,
+    name: &str,
+    characters: &[char],
+) -> Result<(), AllocError>
+    ensures { OnOk result (string_bytes out.new
+        ≡ string_bytes out.old ++ name_of names name.now characters.now) }
+{
+    match names {
+        Names::Whole => push_whole(out, name, characters),
+        Names::Short => push_short(out, name, characters),
+    }
+}
+
+fn chars_of(alloc: Global, name: &str) -> Result<Vec<char>, AllocError>
+    ensures { IfOk result (λ cs. cs.items ≡ chars name.now) }
+{
+    name.chars().collect(alloc)
+}
+
+/// Puts a name at the end: as it is where it is plain, else between quotes, in which a quote stands twice. A plain name
+/// is not empty, and has no white space, no `"`, `,` and `\`, and no character that is printed as an escape.
+#[tactic(auto, unfolding(crate::specs::Named::name_words))]
+pub(crate) fn push_name(
+    alloc: Global,
+    out: &mut String,
+    names: Names,
+    name: &str,
+) -> Result<(), AllocError>
+    ensures { OnOk result (string_bytes out.new ≡ string_bytes out.old ++ name_words names name.now) }
+{
+    let characters = chars_of(alloc, name)?;
+    push_of(out, names, name, characters.as_slice())
+}
+
+/// A name as it stands in a line: as it is where it has no white space, no `"`, `,` and `\`, no character that is printed
+/// as an escape, and isn't empty; else between quotes, in which a quote stands twice. It is still to be
+/// [`printed`](crate::printed). No two names are printed alike, which is the law [`names_apart`].
+pub fn named(alloc: Global, name: &str) -> Result<String, AllocError>
+    ensures { IfOk result (λ out. string_bytes out ≡ whole_name name.now) }
+{
+    let mut out = String::new(alloc);
+    let characters = chars_of(alloc, name)?;
+    push_whole(&mut out, name, characters.as_slice())?;
+    Ok(out)
+}
+
+/// No two names are printed alike: a law of [`named`].
+pub fn names_apart()
+    ensures { NamesApart }
+{}
