@@ -82,7 +82,8 @@ c1 {"k":"in","t":"40{\"sid\":\"s1\",\"pid\":\"P\"}"}
 "#,
 ];
 
-/// What is written of each of them; what the client receives after its reply stands in a second file.
+/// What is written of each of them; what the client receives after its reply stands in a second file. With one stay and
+/// two turns nothing is known to have come outside of a replay.
 static CASES: [&str; 10] = [
     r#"explain
 @CHANGES
@@ -99,12 +100,9 @@ client c1, namespace /, connection 1, turns 2, got 2, due 3, differs at frame 2
     turn 0  a  16 open, cursor 1 == take 2-6 == 25 break, cursor 6
     turn 1  b  30 back, cursor 7 == take 8-10 == 32 log ends, cursor 10
     client  35 reply  36-37 got 3-4
-cause late-leave (fits, line 21): The session had left a room of the entry before it reached the
+cause late-leave (certain, line 21): The session had left a room of the entry before it reached the
         entry.
 do: send an entry by the rooms that the session holds when the node takes it.
-cause join-missing (fits, line 37): What came would fit if the session had joined a room of the
-        entry before: a `join` may be missing.
-do: write a `join` at once, unbuffered; look at whether the session was in that room.
 
 sessions: *"#,
     r#"explain
@@ -122,11 +120,7 @@ client c1, namespace /, connection 1, turns 2, got 2, due 3, differs at frame 2
     turn 0  a  16 open, cursor 1 == take 2-6 == 25 break, cursor 6
     turn 1  b  30 back, cursor 7 == take 8-10 == 32 log ends, cursor 10
     client  35 reply  36 got 3  37 got 5
-cause extra-live (fits, line 37): The node sent the session an entry that was not addressed to it.
-do: look at how the node picks the sessions of a room.
-cause leave-missing (fits, line 37): What came would fit if the session had left a room before: a
-        `leave` may be missing.
-do: write a `leave` at once, unbuffered; look at whether the session was in that room.
+no known cause of the fault holds
 
 sessions: *"#,
     r#"explain
@@ -165,12 +159,7 @@ client c1, namespace /, connection 1, turns 2, got 2, due 3, differs at frame 2
     turn 0  a  16 open, cursor 1 == take 2-6 == 25 break, cursor 6
     turn 1  b  30 back, cursor 7 == take 8-10 == 32 log ends, cursor 10
     client  35 reply  36 got 3  37 got 10
-cause lost-live (fits, line 37): The node took the entry while the client was connected, and no
-        frame of it came.
-do: look at what stands between the node and the client, and at what the node sent.
-cause leave-missing (fits, line 37): What came would fit if the session had left a room before: a
-        `leave` may be missing.
-do: write a `leave` at once, unbuffered; look at whether the session was in that room.
+no known cause of the fault holds
 
 sessions: *"#,
     r#"explain
