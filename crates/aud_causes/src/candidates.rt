@@ -10,7 +10,7 @@ use std::alloc::{AllocError, Global};
 
 static NOLOG: [&str; 2] = ["open-not-recorded", "node-not-tapped"];
 
-static CHAIN: [&str; 6] = [
+static CHAIN: [&str; 7] = [
     "node-not-tapped",
     "missing-back",
     "missing-break",
