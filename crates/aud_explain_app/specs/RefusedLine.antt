@@ -7,8 +7,7 @@ use Rattle.aud_node.specs.Stream.{Text}
 use Rattle.aud_input.specs.declared.place.FileLine.{FileLine}
 use Rattle.aud_input.specs.declared.refusal.Refusal.{Refusal}
 use Rattle.aud_explanation.specs.JsonValue.{text_or_null}
-use Rattle.aud_explanation.specs.Named.{whole_name}
-use Rattle.aud_explanation.specs.Printed.{json_printed, printed}
+use Rattle.aud_explanation.specs.Printed.{printed}
 use Rattle.aud_explain_app.specs.declared.written.Form.{Form}
 use Rattle.aud_explain_app.specs.declared.written.Form.TheVariants.{Text as InText, Json}
 use Rattle.aud_refusals.specs.Help.{help_text}
@@ -21,10 +20,10 @@ use Rattle.aud_verdict.specs.Report.{refusal_line}
 abbrev pub file_told : List Text → FileLine → Option Text
 file_told names at = if nat_lt (length names) 2 then None else slice_get names at.file
 
--- where the line stands in its file, by its name, as that is printed
+-- where the line stands in its file, by the name as it is printed
 abbrev pub place_line : Option Text → ℕ → List ℕ
 place_line None line = []
-place_line (Some name) line = codes "That is line " ++ decimal line ++ codes " of " ++ printed (whole_name name) ++ codes ".\n"
+place_line (Some name) line = codes "That is line " ++ decimal line ++ codes " of " ++ printed name ++ codes ".\n"
 
 -- the help on the line
 abbrev pub help_on : Refusal → List ℕ
@@ -43,7 +42,7 @@ abbrev pub json_data : Option Text → Refusal → List ℕ → Data
 json_data file r help = object (member (codes "refused") (refused_data file r help) (member (codes "v") (whole 1) no_members))
 
 abbrev pub json_line : Option Text → Refusal → List ℕ → List ℕ
-json_line file r help = json_printed (compact_text (json_data file r help)) ++ codes "\n"
+json_line file r help = compact_text (json_data file r help) ++ codes "\n"
 
 -- the line as the other modes name it, its place in its file where there are several, and the help; or all of it in a
 -- line of JSON, with the file's name where one is named

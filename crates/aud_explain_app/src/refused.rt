@@ -6,7 +6,7 @@ ghost use Rattle.aud_explanation.specs.JsonValue.{text_or_null};
 ghost use Rattle.aud_explain_app.specs.RefusedLine.{file_told, json_data, json_line, place_line, refused_data, refused_output};
 
 use crate::written::Form;
-use aud_explanation::{named, push_json_printed, push_printed};
+use aud_explanation::push_printed;
 use aud_input::{FileLine, Refusal};
 use aud_refusals::refusal_help;
 use aud_tap::Text;
@@ -28,7 +28,6 @@ pub(crate) fn refused_output(
     let Output { status, text } = refusal(alloc, refused.number, refused.code.name())?;
     let text = match form {
         Form::Text => with_help(
-            alloc,
             text,
             file_told(names, refused.at),
             refused.at.line,
@@ -41,7 +40,6 @@ pub(crate) fn refused_output(
 
 /// The line, where it stands in its file, and the help.
 fn with_help(
-    alloc: Global,
     line: String,
     file: Option<&str>,
     number: u64,
@@ -53,19 +51,18 @@ fn with_help(
 {
     let mut out = line;
     if let Some(name) = file {
-        push_named(alloc, &mut out, name, number)?;
+        push_named(&mut out, name, number)?;
     }
     out.push_str(help)?;
     Ok(out)
 }
 
-fn push_named(alloc: Global, out: &mut String, name: &str, number: u64) -> Result<(), AllocError>
+fn push_named(out: &mut String, name: &str, number: u64) -> Result<(), AllocError>
     ensures { OnOk result (string_bytes out.new
         ≡ string_bytes out.old ++ place_line (Some name.now) number) }
 {
-    let name = named(alloc, name)?;
     write!(out, "That is line {number} of ")?;
-    push_printed(out, name.as_str())?;
+    push_printed(out, name)?;
     out.push_str(".\n")?;
     Ok(())
 }
@@ -97,10 +94,8 @@ fn refused_json(
         ≡ json_line (option_map (λ name. name.now) file.entry) refused.now help.now) }
 {
     let value = refused_value(alloc, file, refused, help)?;
-    let json = value.to_string(alloc)?;
-    let mut out = String::new(alloc);
-    push_json_printed(&mut out, json.as_str())?;
-    out.push_str("\n")?;
+    let mut out = value.to_string(alloc)?;
+    writeln!(&mut out, "")?;
     Ok(out)
 }
 

@@ -161,12 +161,16 @@ first_same c d = elim (way_of c) [
   | plain other way ↦ first_plain c d other way
 ]
 
+-- what begins with a byte is not empty
+pub begun : (m : ℕ) (x : List ℕ) → m ∷ x ≡ [] → ⊥
+begun m x e = cc
+
 -- something stands for each character
 shown_some : (c : ℕ) (r : List ℕ) → shown c ++ r ≡ [] → ⊥
 shown_some c r e = elim (way_of c) [
-  | doubled is way ↦ cc
-  | byte small way ↦ cc
-  | coded small way ↦ cc
+  | doubled is way ↦ begun 92 _ (rw way at e)
+  | byte small way ↦ begun 92 _ (rw way at e)
+  | coded small way ↦ begun 92 _ (rw way at e)
   | plain other way ↦
       let none : length (encode_utf8 c ++ r) ≡ 0 = ap length (rw way at e) in
       omega (arith, none, length-append (encode_utf8 c) r, length-encode c, (len_utf8_bounds c).0)

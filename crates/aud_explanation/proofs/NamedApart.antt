@@ -1,12 +1,12 @@
 -- No two names are printed alike.
-use Rattle.std.proofs.Common.{◌≡◌, ℕ, ◌+◌, true, false, cond, eqb, List, [], ◌∷◌, ◌++◌, length, get_or, drop, flat_map, chars, encode_utf8, encode_utf8_all, IsUtf8, refl, sym, ap, ◌∙◌, append_assoc, append-nil, inl, inr, arith}
+use Rattle.std.proofs.Common.{◌≡◌, ℕ, true, false, cond, eqb, List, [], ◌∷◌, ◌++◌, get_or, drop, flat_map, chars, encode_utf8, encode_utf8_all, IsUtf8, refl, sym, ap, ◌∙◌, append_assoc, append-nil, inl, inr, arith}
 use Rattle.std.specs.Str.{all_scalars as scalars}
 use Rattle.std.proofs.lemmas.Bool.{and_parts, and_from, cases_Bool}
 use Rattle.std.proofs.lemmas.Bool.Decides.{nat_tests}
 use Rattle.std.proofs.lemmas.Str.{encode_ascii, encodes-append, encodes_same, encodes-chars, scalars-chars}
 use Rattle.aud_explanation.specs.Named.{NamesApart, in_quotes, is_of_plain, is_plain_name, quoted, whole_name, whole_of}
 use Rattle.aud_explanation.specs.Printed.{printed}
-use Rattle.aud_explanation.proofs.Apart.{printed_apart}
+use Rattle.aud_explanation.proofs.Apart.{begun, printed_apart}
 
 -- ---- between quotes, as characters
 
@@ -69,7 +69,7 @@ same_nat m n is = grind (arith, nat_tests)
 
 -- a quote that ends is no double one
 one_is_two : (rest : List ℕ) → 34 ∷ [] ≡ 34 ∷ 34 ∷ rest → ⊥
-one_is_two rest e = let n : 1 ≡ 2 + length rest = ap length e in omega (arith, n)
+one_is_two rest e = begun 34 rest (sym (ap (λ x. drop 1 x) e))
 
 -- the first characters between quotes
 abbrev after : List ℕ → List ℕ

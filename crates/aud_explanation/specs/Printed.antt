@@ -23,9 +23,13 @@ hex b = digit_char (b / 16) ∷ digit_char (b % 16) ∷ []
 abbrev pub hex_16 : ℕ → List ℕ
 hex_16 n = hex (n / 256) ++ hex (n % 256)
 
+-- a number below 2^24 in six
+abbrev pub hex_24 : ℕ → List ℕ
+hex_24 n = hex (n / 65536) ++ hex_16 (n % 65536)
+
 -- the code of a character: four digits, or six from U+10000 on
 abbrev pub hex_code : ℕ → List ℕ
-hex_code c = if nat_lt c 65536 then hex_16 c else hex (c / 65536) ++ hex_16 (c % 65536)
+hex_code c = if nat_lt c 65536 then hex_16 c else hex_24 c
 
 -- a character by its code
 abbrev pub code_escape : ℕ → List ℕ
@@ -45,14 +49,16 @@ unfoldable pub printed : List ℕ → List ℕ
 printed text = flat_map shown (chars text)
 
 -- half of a character of a JSON string, or a whole one below U+10000 (RFC 8259, section 7)
-abbrev pub json_unit : ℕ → List ℕ
+unfoldable pub json_unit : ℕ → List ℕ
 json_unit n = codes "\\u" ++ hex_16 n
 
--- a character of a JSON string by its code: from U+10000 on by a surrogate pair
+-- both halves of the character so far past U+10000, a surrogate pair
+unfoldable pub json_pair : ℕ → List ℕ
+json_pair n = json_unit (0xD800 + n / 1024) ++ json_unit (0xDC00 + n % 1024)
+
+-- a character of a JSON string by its code
 abbrev pub json_escape : ℕ → List ℕ
-json_escape c =
-    if nat_lt c 65536 then json_unit c
-    else json_unit (0xD800 + (c - 65536) / 1024) ++ json_unit (0xDC00 + (c - 65536) % 1024)
+json_escape c = if nat_lt c 65536 then json_unit c else json_pair (c - 65536)
 
 -- a character of JSON as it is printed: a control or a hidden character by its code, which tells the same string, and any
 -- other as it is. JSON without blanks between its tokens has such characters in strings alone

@@ -12,9 +12,17 @@ use Rattle.aud_explanation.specs.Named.{name_words}
 use Rattle.aud_explanation.specs.Page.{laid_line}
 use Rattle.aud_explanation.specs.Evidence.{row_text}
 
+-- the words before the session that the client got
+unfoldable pub got_session : List ℕ
+got_session = codes "got session "
+
+-- this session
+abbrev pub got_words : List ℕ → List ℕ
+got_words pid = got_session ++ name_words Short pid
+
 -- the session that the client got instead
 abbrev pub instead_words : Option (List ℕ) → List ℕ
-instead_words (Some pid) = codes "got session " ++ name_words Short pid
+instead_words (Some pid) = got_words pid
 instead_words None = codes "got no session"
 
 -- how many entries it missed

@@ -1,6 +1,6 @@
 //! Texts as they are printed.
 ghost use Rattle.std.specs.Prelude.{◌≡◌, ◌++◌, ◌<◌, IfOk, OnOk, string_bytes};
-ghost use Rattle.aud_explanation.specs.Printed.{PrintedApart, code_escape, hex_16, hex_code, is_hidden, json_escape, json_printed, json_shown, json_unit, printed, shown};
+ghost use Rattle.aud_explanation.specs.Printed.{PrintedApart, code_escape, hex, hex_16, hex_24, hex_code, is_hidden, json_escape, json_pair, json_printed, json_shown, json_unit, printed, shown};
 
 use std::alloc::{AllocError, Global};
 
@@ -30,13 +30,30 @@ pub(crate) fn is_hidden(c: char) -> bool
     )
 }
 
-/// Puts a number of 16 bits at the end in four hexadecimal digits.
+/// Puts a byte at the end in two hexadecimal digits.
+fn push_hex(out: &mut String, byte: u32) -> Result<(), AllocError>
+    requires { byte < 256 }
+    ensures { OnOk result (string_bytes out.new ≡ string_bytes out.old ++ hex byte) }
+{
+    write!(out, "{byte:02x}")
+}
+
+/// Puts a number of 16 bits at the end in four.
 fn push_hex_16(out: &mut String, number: u32) -> Result<(), AllocError>
     requires { number < 65536 }
     ensures { OnOk result (string_bytes out.new ≡ string_bytes out.old ++ hex_16 number) }
 {
-    let (high, low) = (number / 256, number % 256);
-    write!(out, "{high:02x}{low:02x}")
+    push_hex(out, number / 256)?;
+    push_hex(out, number % 256)
+}
+
+/// Puts a number of 24 bits at the end in six.
+fn push_hex_24(out: &mut String, number: u32) -> Result<(), AllocError>
+    requires { number < 16777216 }
+    ensures { OnOk result (string_bytes out.new ≡ string_bytes out.old ++ hex_24 number) }
+{
+    push_hex(out, number / 65536)?;
+    push_hex_16(out, number % 65536)
 }
 
 /// Puts the code of a character at the end in four hexadecimal digits, or six from U+10000 on.
@@ -47,9 +64,7 @@ fn push_hex_code(out: &mut String, code: u32) -> Result<(), AllocError>
     if code < 65536 {
         push_hex_16(out, code)
     } else {
-        let plane = code / 65536;
-        write!(out, "{plane:02x}")?;
-        push_hex_16(out, code % 65536)
+        push_hex_24(out, code)
     }
 }
 
@@ -101,12 +116,23 @@ pub fn printed(alloc: Global, text: &str) -> Result<String, AllocError>
 }
 
 /// Puts half of a character of a JSON string, or a whole one below U+10000, at the end by its code.
+#[tactic(auto, unfolding(crate::specs::Printed::json_unit))]
 fn push_json_unit(out: &mut String, unit: u32) -> Result<(), AllocError>
     requires { unit < 65536 }
     ensures { OnOk result (string_bytes out.new ≡ string_bytes out.old ++ json_unit unit) }
 {
     out.push_str("\\u")?;
     push_hex_16(out, unit)
+}
+
+/// Puts both halves of the character so far past U+10000 at the end.
+#[tactic(auto, unfolding(crate::specs::Printed::json_pair))]
+fn push_json_pair(out: &mut String, past: u32) -> Result<(), AllocError>
+    requires { past < 1048576 }
+    ensures { OnOk result (string_bytes out.new ≡ string_bytes out.old ++ json_pair past) }
+{
+    push_json_unit(out, 0xd800 + past / 1024)?;
+    push_json_unit(out, 0xdc00 + past % 1024)
 }
 
 /// Puts a character of a JSON string at the end by its code.
@@ -117,9 +143,7 @@ fn push_json_escape(out: &mut String, code: u32) -> Result<(), AllocError>
     if code < 65536 {
         push_json_unit(out, code)
     } else {
-        let past = code - 65536;
-        push_json_unit(out, 0xd800 + past / 1024)?;
-        push_json_unit(out, 0xdc00 + past % 1024)
+        push_json_pair(out, code - 65536)
     }
 }
 

@@ -72,7 +72,8 @@ fn push_each(out: &mut String, characters: &[char]) -> Result<(), AllocError>
         ≡ string_bytes out.old ++ flat_map in_quotes characters.now) }
 {
     for c in characters {
-        push_in_quotes(out, *c)?;
+        let c = *c;
+        push_in_quotes(out, c)?;
     }
     Ok(())
 }

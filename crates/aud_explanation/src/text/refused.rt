@@ -2,7 +2,7 @@
 ghost use Rattle.std.specs.Prelude.{◌≡◌, ◌++◌, OnOk, flat_map, length, string_bytes};
 ghost use Rattle.std.specs.Option.{option_copied};
 ghost use Rattle.aud_explanation.specs.Evidence.{row_text};
-ghost use Rattle.aud_explanation.specs.RefusedText.{instead_words, count_words, head_line, head_text, reply_text, missed_line, missed_text, all_missed_text, refused_text, each_refused_text, all_refused_text};
+ghost use Rattle.aud_explanation.specs.RefusedText.{got_session, got_words, instead_words, count_words, head_line, head_text, reply_text, missed_line, missed_text, all_missed_text, refused_text, each_refused_text, all_refused_text};
 
 use crate::long::{first_shown, last_shown, left_out, push_more};
 use crate::name::{Names, push_name};
@@ -14,16 +14,29 @@ use aud_rows::Row;
 use aud_verdict::Verdict;
 use std::alloc::{AllocError, Global};
 
+/// Puts the words before the session that a client got at the end.
+#[tactic(auto, unfolding(crate::specs::RefusedText::got_session))]
+fn push_got_session(line: &mut String) -> Result<(), AllocError>
+    ensures { OnOk result (string_bytes line.new ≡ string_bytes line.old ++ got_session) }
+{
+    line.push_str("got session ")
+}
+
+/// Puts the session that a client got at the end.
+fn push_got(alloc: Global, line: &mut String, pid: &str) -> Result<(), AllocError>
+    ensures { OnOk result (string_bytes line.new ≡ string_bytes line.old ++ got_words pid.now) }
+{
+    push_got_session(line)?;
+    push_name(alloc, line, Names::Short, pid)
+}
+
 /// Puts the session that a client got instead at the end.
 fn push_instead(alloc: Global, line: &mut String, instead: Option<&str>) -> Result<(), AllocError>
     ensures { OnOk result (string_bytes line.new
         ≡ string_bytes line.old ++ instead_words (option_copied instead.entry)) }
 {
     match instead {
-        Some(pid) => {
-            line.push_str("got session ")?;
-            push_name(alloc, line, Names::Short, pid)
-        }
+        Some(pid) => push_got(alloc, line, pid),
         None => line.push_str("got no session"),
     }
 }

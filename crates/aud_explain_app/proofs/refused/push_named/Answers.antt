@@ -1,5 +1,4 @@
 use Rattle.std.proofs.Common.{◌≡◌, ◌++◌, ◌∙◌, ℕ, List, ap, append_assoc, codes, decimal, string_bytes, sym}
-use Rattle.aud_explanation.specs.Named.{whole_name}
 use Rattle.aud_explanation.specs.Printed.{printed}
 use Rattle.aud_explain_app.proofs.refused.push_named.Goals as goal
 
@@ -12,8 +11,7 @@ line_of out a b c d e =
 
 pub returns : goal.returns
 returns c =
-    let name = printed (whole_name c.args.name.now) in
-    let put = rw c.in_ok-name.ensures at c.in_ok-push_printed.ensures in
+    let name = printed c.args.name.now in
     c.in_ok-push_str.ensures.bytes
-    ∙ ap (λ x. x ++ codes ".\n") (put ∙ ap (λ x. x ++ name) c.in_ok-write.ensures.bytes)
+    ∙ ap (λ x. x ++ codes ".\n") (c.in_ok-push_printed.ensures ∙ ap (λ x. x ++ name) c.in_ok-write.ensures.bytes)
     ∙ line_of (string_bytes c.args.out.now) (codes "That is line ") (decimal c.args.number) (codes " of ") name (codes ".\n")
