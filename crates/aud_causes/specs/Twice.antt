@@ -1,5 +1,5 @@
 -- A turn for which two records take the session back.
-use Rattle.std.specs.Prelude.{ℕ, zero, suc, Bool, true, false, not, ◌&&◌, ◌||◌, List, [], count_by, flat_map, length, Option, Some, None, if◌then◌else◌, nat_eq, nat_le, slice_get}
+use Rattle.std.specs.Prelude.{ℕ, zero, suc, Bool, true, false, not, ◌&&◌, ◌||◌, List, [], ◌∷◌, count_by, flat_map, length, Option, Some, None, if◌then◌else◌, nat_eq, nat_le, slice_get}
 use Rattle.std.specs.Option.{option_and_then, option_map, option_or}
 use Rattle.aud_base.specs.Lists.{numbers_from}
 use Rattle.aud_session_facts.specs.declared.marks.Mark.{Mark}

@@ -1,6 +1,6 @@
-//! All that is said of a cause, in one table.
-ghost use Rattle.std.specs.Prelude.{◌≡◌};
-ghost use Rattle.aud_causes.specs.Table.{row_of, row_seen};
+//! All that is said of a cause: in words, and by records and figures.
+ghost use Rattle.std.specs.Prelude.{◌≡◌, flat_map, option_to_list};
+ghost use Rattle.aud_causes.specs.Table.{records_in, row_of, row_seen};
 
 use crate::cause::Cause;
 use crate::no_packet::{advice, no_packet_figures, no_packet_words};
@@ -23,9 +23,351 @@ pub struct Row {
     pub todo: &'static str,
 }
 
+/// What is said of a cause in words.
+#[derive(Clone, Copy, Drop)]
+struct Words {
+    id: &'static str,
+    why: &'static str,
+    todo: &'static str,
+}
+
+/// What shows a cause, and the figures for its words.
+#[derive(Clone, Copy, Drop)]
+struct Shown {
+    records: Records,
+    figures: [Option<Figure>; 3],
+}
+
 /// The row of this cause.
 pub(crate) fn row_of(cause: Cause) -> Row
     ensures { row_seen result ≡ row_of cause }
+{
+    let words = words_of(cause);
+    let shown = shown_of(cause);
+    let figures = shown.figures;
+    Row {
+        id: words.id,
+        records: shown.records,
+        why: words.why,
+        figures,
+        todo: words.todo,
+    }
+}
+
+/// The words of its row.
+fn words_of(cause: Cause) -> Words
+    ensures id { result.id.now ≡ (row_of cause).id }
+    ensures why { result.why.now ≡ (row_of cause).why }
+    ensures todo { result.todo.now ≡ (row_of cause).todo }
+{
+    match cause {
+        Cause::NodeBehindBreak { .. } => Words {
+            id: "node-behind-break",
+            why: "# took the session back with its cursor at #; the break was at #.",
+            todo: "let the restore wait until the cursor is at the break's, or drop what the client has.",
+        },
+        Cause::SentAgainAfterReplay { .. } => Words {
+            id: "sent-again-after-replay",
+            why: "The replay ran past the node's cursor at #, and the node sent again what it took then.",
+            todo: "let the replay end at the node's cursor, or drop what it sent from what the node takes.",
+        },
+        Cause::ReplayIncludesOffset { .. } => Words {
+            id: "replay-includes-offset",
+            why: "The client asked to go on after entry #, and that entry came first.",
+            todo: "let the replay begin after the offset: in Redis `XRANGE` from `(OFFSET`, or skip the first.",
+        },
+        Cause::DoubledInReplay { .. } => Words {
+            id: "doubled-in-replay",
+            why: "The entry is one of those to be sent again, and came twice in one recovery.",
+            todo: "look at how the node reads the stream for the replay: no entry may stand in two of its pages.",
+        },
+        Cause::StaleOffset { .. } => Words {
+            id: "stale-offset",
+            why: "The client asked to go on after entry #, and its tap has later ones.",
+            todo: "store the offset with each event, before the event is worked on, and put the client's tap there.",
+        },
+        Cause::BodyCameTwice { equal: false, .. } => Words {
+            id: "body-came-twice",
+            why: "From this entry on, all that came before the recovery had come in one body of polling.",
+            todo: "see whether the client refused that body, for its packets are too many or too long.",
+        },
+        Cause::BodyCameTwice { equal: true, .. } => Words {
+            id: "body-came-twice",
+            why: "The two bodies of polling in which the entry came are the same, byte for byte.",
+            todo: "see whether the client's tap wrote one body twice; else whether the server sent it twice.",
+        },
+        Cause::OffsetOfAnotherSession { .. } => Words {
+            id: "offset-of-another-session",
+            why: "The client asked to go on after entry #, which was not due to this session.",
+            todo: "drop the offset when a new session opens.",
+        },
+        Cause::FrameNotRecorded { .. } => Words {
+            id: "frame-not-recorded",
+            why: "The client asked to go on after entry #, of which its tap has no frame: it may have had it.",
+            todo: "see whether the client's tap lost records; else look at where the client has the offset from.",
+        },
+        Cause::UnknownOffset { .. } => Words {
+            id: "unknown-offset",
+            why: "The client asked to go on after an offset that no entry of the stream has.",
+            todo: "take as offset only what a server that recovers put at the end of an event.",
+        },
+        Cause::NoOffset { .. } => Words {
+            id: "no-offset",
+            why: "The client asked for the session and gave no offset.",
+            todo: "store the offset of each event, and ask with the last one.",
+        },
+        Cause::RoomsAtBreak { .. } => Words {
+            id: "rooms-at-break",
+            why: "Of the entries after # up to #, exactly those came that are for the rooms held at the break.",
+            todo: "join again after a recovery, or accept it: public adapters replay by the rooms at the break.",
+        },
+        Cause::SkippedInWindow { .. } => Words {
+            id: "skipped-in-window",
+            why: "The entry is one of those to be sent again, after # up to #, and no frame of it came.",
+            todo: "look at how the node reads the stream for the replay, and at what stands between it and the client.",
+        },
+        Cause::LostLive { .. } => Words {
+            id: "lost-live",
+            why: "The node took the entry while the client was connected, and no frame of it came.",
+            todo: "look at what stands between the node and the client, and at what the node sent.",
+        },
+        Cause::DoubledLive { .. } => Words {
+            id: "doubled-live",
+            why: "No recovery stands between the two frames: the entry came twice while the client was connected.",
+            todo: "look at what stands between the node and the client, and at what the node sent.",
+        },
+        Cause::SwappedLive { .. } => Words {
+            id: "swapped-live",
+            why: "No recovery stands between the two frames: they changed places while the client was connected.",
+            todo: "look at what stands between the node and the client, and at what the node sent.",
+        },
+        Cause::SwappedInReplay { .. } => Words {
+            id: "swapped-in-replay",
+            why: "The entry is one of those to be sent again, and came late in its recovery.",
+            todo: "send what is read for the replay in the stream's order, and before what the node takes.",
+        },
+        Cause::AnotherEncoder { .. } => Words {
+            id: "another-encoder",
+            why: "The event's text parts from its entry's at byte #, and is the same JSON.",
+            todo: "let the stream's tap write each event as the nodes do, byte for byte.",
+        },
+        Cause::AttachmentsReordered { .. } => Words {
+            id: "attachments-reordered",
+            why: "The event has its entry's attachments, in another order.",
+            todo: "look at what stands between the node and the client: it has to keep the order of messages.",
+        },
+        Cause::AnotherEvent { .. } => Words {
+            id: "another-event",
+            why: "The event has another name, namespace or number of arguments than its entry.",
+            todo: "let no event but those of the stream end in a text that is an offset.",
+        },
+        Cause::Altered { part, .. } => Words {
+            id: "altered",
+            why: part_words(part),
+            todo: "look at what stands between the node and the client.",
+        },
+        Cause::LogEndedEarly { .. } => Words {
+            id: "log-ended-early",
+            why: "The log of # ends in the session's last turn; the turns reach entry #.",
+            todo: "write a node's log unbuffered, and stop the nodes after the clients.",
+        },
+        Cause::LateLeave { .. } => Words {
+            id: "late-leave",
+            why: "The session had left a room of the entry before it reached the entry.",
+            todo: "send an entry by the rooms that the session holds when the node takes it.",
+        },
+        Cause::BeforeBirth { .. } => Words {
+            id: "before-birth",
+            why: "By its log # had taken the entry when it opened the session, with its cursor at #.",
+            todo: "send a session nothing that the node took before its `open`; see whether that, and `start`, are written in time.",
+        },
+        Cause::ExtraLive { .. } => Words {
+            id: "extra-live",
+            why: "The node sent the session an entry that was not addressed to it.",
+            todo: "look at how the node picks the sessions of a room.",
+        },
+        Cause::JoinMissing { .. } => Words {
+            id: "join-missing",
+            why: "What came would fit if the session had joined a room of the entry before: a `join` may be missing.",
+            todo: "write a `join` at once, unbuffered; look at whether the session was in that room.",
+        },
+        Cause::LeaveMissing { .. } => Words {
+            id: "leave-missing",
+            why: "What came would fit if the session had left a room before: a `leave` may be missing.",
+            todo: "write a `leave` at once, unbuffered; look at whether the session was in that room.",
+        },
+        Cause::RecoveryNotRecorded { .. } => Words {
+            id: "recovery-not-recorded",
+            why: "The client was taken back more often (#) than the logs have turns after the first (#): a turn is missing.",
+            todo: "tap each node, from its start, and write its log unbuffered.",
+        },
+        Cause::MissingBreak { stay: Some(_), .. } => Words {
+            id: "missing-break",
+            why: "The client recovered the session after turn #, so that turn broke; no log has its break.",
+            todo: "write a node's log unbuffered; see whether it ended there, or the node was restarted; look at the disk and at how logs are rotated.",
+        },
+        Cause::MissingBreak { stay: None, .. } => Words {
+            id: "missing-break",
+            why: "The next turn begins, so turn # broke; no log has its break.",
+            todo: "write a node's log unbuffered; see whether it ended there, or the node was restarted; look at the disk and at how logs are rotated.",
+        },
+        Cause::MissingBack { .. } => Words {
+            id: "missing-back",
+            why: "The session had turn #, by its `break` or a later turn; no log has its `back`.",
+            todo: "write a node's log from its start, unbuffered; look at whether one ended early, or lost lines.",
+        },
+        Cause::ClearedAfterBreak { .. } => Words {
+            id: "cleared-after-break",
+            why: "The log of # clears the session up after its break, by a `leave` or its `gone`.",
+            todo: "write no `leave` and no `gone` for what is cleared up after a break.",
+        },
+        Cause::TurnNotStored { .. } => Words {
+            id: "turn-not-stored",
+            why: "Two records take the session back as turn #; a log ends that turn, or the client has a recovery for each.",
+            todo: "store the turn with the session, and write the next one into its `back`.",
+        },
+        Cause::RecoveredTwice { .. } => Words {
+            id: "recovered-twice",
+            why: "Two nodes took the session back as turn #.",
+            todo: "take a stored session out of the store in one step, so that one node alone gets it.",
+        },
+        Cause::OpenedTwice { .. } => Words {
+            id: "opened-twice",
+            why: "The log of # has an `open` of the session, and that of # has another.",
+            todo: "give each session a pid of its own; see whether two taps have one node's log.",
+        },
+        Cause::OpenNotRecorded { first: Some(_) } => Words {
+            id: "open-not-recorded",
+            why: "The log of # has records of the session, and no log has its `open`.",
+            todo: "write an `open` when the session opens, unbuffered; look at how logs are rotated.",
+        },
+        Cause::OpenNotRecorded { first: None } => Words {
+            id: "open-not-recorded",
+            why: "No log has a record of the session, though a node is tapped: its `open` may be missing.",
+            todo: "write an `open` when the session opens, unbuffered; look at how logs are rotated.",
+        },
+        Cause::NodeNotTapped { .. } => Words {
+            id: "node-not-tapped",
+            why: "No node's log has the begin of turn #.",
+            todo: "tap each node, from its start.",
+        },
+        Cause::NoStart { .. } => Words {
+            id: "no-start",
+            why: "The log of # does not begin with a `start`.",
+            todo: "begin a node's log with a `start`, when the node starts.",
+        },
+        Cause::RestartedInOldLog { .. } => Words {
+            id: "restarted-in-old-log",
+            why: "# started again in its old log.",
+            todo: "begin a new log, of another name, each time that a node starts.",
+        },
+        Cause::EntriesSkippedByNode { .. } => Words {
+            id: "entries-skipped-by-node",
+            why: "# took entry # with its cursor at #.",
+            todo: "write a `take` for each entry before it is sent, unbuffered.",
+        },
+        Cause::EntryTakenAgain { .. } => Words {
+            id: "entry-taken-again",
+            why: "# took entry # again, with its cursor at #.",
+            todo: "let a node take each entry once, in the order of the stream.",
+        },
+        Cause::NotInStream { .. } => Words {
+            id: "not-in-stream",
+            why: "# names an entry that the stream's tap doesn't have.",
+            todo: "tap the stream before the nodes, and stop its tap after them.",
+        },
+        Cause::TwoTaps { .. } => Words {
+            id: "two-taps",
+            why: "# taps of clients name the session.",
+            todo: "keep one name of a tap for a client's whole life.",
+        },
+        Cause::NoClientTap => Words {
+            id: "no-client-tap",
+            why: "No tap of a client names the session.",
+            todo: "tap the client before its first connection.",
+        },
+        Cause::ReplyMissing { .. } => Words {
+            id: "reply-missing",
+            why: "The tap of # has a CONNECT or events, and no reply that names their session.",
+            todo: "begin a client's tap before its first packet, and record each answer to a CONNECT.",
+        },
+        Cause::ClientTapHasNoPackets { .. } => Words {
+            id: "client-tap-has-no-packets",
+            why: "The first connection in the tap of # has no packet: it may be the session's.",
+            todo: "begin to record a connection's packets before its first one; see why it ended.",
+        },
+        Cause::SidDiffers { .. } => Words {
+            id: "sid-differs",
+            why: "The reply has another sid than the session was opened with.",
+            todo: "write the session's sid into the node's log, not that of the transport.",
+        },
+        Cause::NamespaceDiffers { .. } => Words {
+            id: "namespace-differs",
+            why: "The reply is of another namespace than the session was opened in.",
+            todo: "write the namespace in which the session was opened.",
+        },
+        Cause::NotAPacket { why } => Words {
+            id: "not-a-packet",
+            why: no_packet_words(why),
+            todo: advice(why),
+        },
+        Cause::TapBeganLate { .. } => Words {
+            id: "tap-began-late",
+            why: "Events came in a stay without a reply, and no session was asked for in it.",
+            todo: "begin a client's tap before its first packet.",
+        },
+        Cause::CutBeforeReply { .. } => Words {
+            id: "cut-before-reply",
+            why: "The client asked for a session, and events came, but no reply did.",
+            todo: "nothing, where the client came back; else look at why the connection was cut.",
+        },
+        Cause::ReplyWithoutPid { .. } => Words {
+            id: "reply-without-pid",
+            why: "The reply names no session: the server recovers none there.",
+            todo: "let the server recover sessions in this namespace.",
+        },
+        Cause::OutAfterAnswer { .. } => Words {
+            id: "out-after-answer",
+            why: "The namespace was answered before on this connection; the CONNECT may be recorded after its answer.",
+            todo: "record what the client sends before it is sent.",
+        },
+        Cause::SecondConnect { .. } => Words {
+            id: "second-connect",
+            why: "The namespace was answered before on this connection; the client may have sent a second CONNECT.",
+            todo: "connect to a namespace once, and not again while its session goes on.",
+        },
+        Cause::AfterDisconnect { .. } => Words {
+            id: "after-disconnect",
+            why: "Events came after a DISCONNECT from the namespace on this connection.",
+            todo: "record what a client takes in: nothing of a namespace after its DISCONNECT.",
+        },
+        Cause::SessionOver { .. } => Words {
+            id: "session-over",
+            why: "The log of # ends the session.",
+            todo: "keep a session that a client may come back to, for as long as it may.",
+        },
+        Cause::NodeEndedInTurn { .. } => Words {
+            id: "node-ended-in-turn",
+            why: "The log of # ends in the session's last turn.",
+            todo: "see whether the node was killed: then it stored no session, and waiting can't help.",
+        },
+        Cause::NeverBroken { .. } => Words {
+            id: "never-broken",
+            why: "No log has a break of the session's last turn.",
+            todo: "let the client wait longer before it comes back, or the server notice a break sooner.",
+        },
+        Cause::AskedTooEarly { .. } => Words {
+            id: "asked-too-early",
+            why: "The session broke with its node's cursor at #; another was opened instead with the cursor at #.",
+            todo: "let the client wait longer before it comes back, or the server notice a break sooner.",
+        },
+    }
+}
+
+/// The records and the figures of its row.
+fn shown_of(cause: Cause) -> Shown
+    ensures records { records_in result.records ≡ (row_of cause).records }
+    ensures figures { flat_map option_to_list result.figures ≡ (row_of cause).figures }
 {
     match cause {
         Cause::NodeBehindBreak {
@@ -33,472 +375,280 @@ pub(crate) fn row_of(cause: Cause) -> Row
             back,
             high,
             low,
-        } => Row {
-            id: "node-behind-break",
+        } => Shown {
             records: Two(Node(broke), Node(back)),
-            why: "# took the session back with its cursor at #; the break was at #.",
             figures: [Some(Name(back.node)), Some(Number(low)), Some(Number(high))],
-            todo: "let the restore wait until the cursor is at the break's, or drop what the client has.",
         },
-        Cause::SentAgainAfterReplay { first, again, low } => Row {
-            id: "sent-again-after-replay",
+        Cause::SentAgainAfterReplay { first, again, low } => Shown {
             records: Two(Got(first), Got(again)),
-            why: "The replay ran past the node's cursor at #, and the node sent again what it took then.",
             figures: [Some(Number(low)), None, None],
-            todo: "let the replay end at the node's cursor, or drop what it sent from what the node takes.",
         },
-        Cause::ReplayIncludesOffset { stay, again, after } => Row {
-            id: "replay-includes-offset",
+        Cause::ReplayIncludesOffset { stay, again, after } => Shown {
             records: Two(Ask(stay), Got(again)),
-            why: "The client asked to go on after entry #, and that entry came first.",
             figures: [Some(Number(after)), None, None],
-            todo: "let the replay begin after the offset: in Redis `XRANGE` from `(OFFSET`, or skip the first.",
         },
-        Cause::DoubledInReplay { first, again } => Row {
-            id: "doubled-in-replay",
+        Cause::DoubledInReplay { first, again } => Shown {
             records: Two(Got(first), Got(again)),
-            why: "The entry is one of those to be sent again, and came twice in one recovery.",
             figures: [None; 3],
-            todo: "look at how the node reads the stream for the replay: no entry may stand in two of its pages.",
         },
-        Cause::StaleOffset { stay, after } => Row {
-            id: "stale-offset",
+        Cause::StaleOffset { stay, after } => Shown {
             records: One(Ask(stay)),
-            why: "The client asked to go on after entry #, and its tap has later ones.",
             figures: [Some(Number(after)), None, None],
-            todo: "store the offset with each event, before the event is worked on, and put the client's tap there.",
         },
-        Cause::BodyCameTwice {
-            first,
-            again,
-            equal: false,
-        } => Row {
-            id: "body-came-twice",
+        Cause::BodyCameTwice { first, again, .. } => Shown {
             records: Two(Got(first), Got(again)),
-            why: "From this entry on, all that came before the recovery had come in one body of polling.",
             figures: [None; 3],
-            todo: "see whether the client refused that body, for its packets are too many or too long.",
         },
-        Cause::BodyCameTwice {
-            first,
-            again,
-            equal: true,
-        } => Row {
-            id: "body-came-twice",
-            records: Two(Got(first), Got(again)),
-            why: "The two bodies of polling in which the entry came are the same, byte for byte.",
-            figures: [None; 3],
-            todo: "see whether the client's tap wrote one body twice; else whether the server sent it twice.",
-        },
-        Cause::OffsetOfAnotherSession { stay, after } => Row {
-            id: "offset-of-another-session",
+        Cause::OffsetOfAnotherSession { stay, after } => Shown {
             records: One(Ask(stay)),
-            why: "The client asked to go on after entry #, which was not due to this session.",
             figures: [Some(Number(after)), None, None],
-            todo: "drop the offset when a new session opens.",
         },
-        Cause::FrameNotRecorded { stay, after } => Row {
-            id: "frame-not-recorded",
+        Cause::FrameNotRecorded { stay, after } => Shown {
             records: One(Ask(stay)),
-            why: "The client asked to go on after entry #, of which its tap has no frame: it may have had it.",
             figures: [Some(Number(after)), None, None],
-            todo: "see whether the client's tap lost records; else look at where the client has the offset from.",
         },
-        Cause::UnknownOffset { stay } => Row {
-            id: "unknown-offset",
+        Cause::UnknownOffset { stay } => Shown {
             records: One(Ask(stay)),
-            why: "The client asked to go on after an offset that no entry of the stream has.",
             figures: [None; 3],
-            todo: "take as offset only what a server that recovers put at the end of an event.",
         },
-        Cause::NoOffset { stay } => Row {
-            id: "no-offset",
+        Cause::NoOffset { stay } => Shown {
             records: One(Ask(stay)),
-            why: "The client asked for the session and gave no offset.",
             figures: [None; 3],
-            todo: "store the offset of each event, and ask with the last one.",
         },
-        Cause::RoomsAtBreak { stay, after, low } => Row {
-            id: "rooms-at-break",
+        Cause::RoomsAtBreak { stay, after, low } => Shown {
             records: Two(Ask(stay), Reply(stay)),
-            why: "Of the entries after # up to #, exactly those came that are for the rooms held at the break.",
             figures: [Some(Number(after)), Some(Number(low)), None],
-            todo: "join again after a recovery, or accept it: public adapters replay by the rooms at the break.",
         },
-        Cause::SkippedInWindow { stay, after, low } => Row {
-            id: "skipped-in-window",
+        Cause::SkippedInWindow { stay, after, low } => Shown {
             records: Two(Ask(stay), Reply(stay)),
-            why: "The entry is one of those to be sent again, after # up to #, and no frame of it came.",
             figures: [Some(Number(after)), Some(Number(low)), None],
-            todo: "look at how the node reads the stream for the replay, and at what stands between it and the client.",
         },
-        Cause::LostLive { frame } => Row {
-            id: "lost-live",
+        Cause::LostLive { frame } => Shown {
             records: One(Got(frame)),
-            why: "The node took the entry while the client was connected, and no frame of it came.",
             figures: [None; 3],
-            todo: "look at what stands between the node and the client, and at what the node sent.",
         },
-        Cause::DoubledLive { first, again } => Row {
-            id: "doubled-live",
+        Cause::DoubledLive { first, again } => Shown {
             records: Two(Got(first), Got(again)),
-            why: "No recovery stands between the two frames: the entry came twice while the client was connected.",
             figures: [None; 3],
-            todo: "look at what stands between the node and the client, and at what the node sent.",
         },
-        Cause::SwappedLive { first, again } => Row {
-            id: "swapped-live",
+        Cause::SwappedLive { first, again } => Shown {
             records: Two(Got(first), Got(again)),
-            why: "No recovery stands between the two frames: they changed places while the client was connected.",
             figures: [None; 3],
-            todo: "look at what stands between the node and the client, and at what the node sent.",
         },
-        Cause::SwappedInReplay { first, again } => Row {
-            id: "swapped-in-replay",
+        Cause::SwappedInReplay { first, again } => Shown {
             records: Two(Got(first), Got(again)),
-            why: "The entry is one of those to be sent again, and came late in its recovery.",
             figures: [None; 3],
-            todo: "send what is read for the replay in the stream's order, and before what the node takes.",
         },
-        Cause::AnotherEncoder { frame, part } => Row {
-            id: "another-encoder",
+        Cause::AnotherEncoder { frame, part } => Shown {
             records: One(Got(frame)),
-            why: "The event's text parts from its entry's at byte #, and is the same JSON.",
             figures: part_figures(part),
-            todo: "let the stream's tap write each event as the nodes do, byte for byte.",
         },
-        Cause::AttachmentsReordered { frame } => Row {
-            id: "attachments-reordered",
+        Cause::AttachmentsReordered { frame } => Shown {
             records: One(Got(frame)),
-            why: "The event has its entry's attachments, in another order.",
             figures: [None; 3],
-            todo: "look at what stands between the node and the client: it has to keep the order of messages.",
         },
-        Cause::AnotherEvent { frame } => Row {
-            id: "another-event",
+        Cause::AnotherEvent { frame } => Shown {
             records: One(Got(frame)),
-            why: "The event has another name, namespace or number of arguments than its entry.",
             figures: [None; 3],
-            todo: "let no event but those of the stream end in a text that is an offset.",
         },
-        Cause::Altered { frame, part } => Row {
-            id: "altered",
+        Cause::Altered { frame, part } => Shown {
             records: One(Got(frame)),
-            why: part_words(part),
             figures: part_figures(part),
-            todo: "look at what stands between the node and the client.",
         },
-        Cause::LogEndedEarly { last, high } => Row {
-            id: "log-ended-early",
+        Cause::LogEndedEarly { last, high } => Shown {
             records: One(Node(last)),
-            why: "The log of # ends in the session's last turn; the turns reach entry #.",
             figures: [Some(Name(last.node)), Some(Number(high)), None],
-            todo: "write a node's log unbuffered, and stop the nodes after the clients.",
         },
-        Cause::LateLeave { leave } => Row {
-            id: "late-leave",
+        Cause::LateLeave { leave } => Shown {
             records: One(Node(leave)),
-            why: "The session had left a room of the entry before it reached the entry.",
             figures: [None; 3],
-            todo: "send an entry by the rooms that the session holds when the node takes it.",
         },
-        Cause::BeforeBirth { begin, low } => Row {
-            id: "before-birth",
+        Cause::BeforeBirth { begin, low } => Shown {
             records: One(Node(begin)),
-            why: "By its log # had taken the entry when it opened the session, with its cursor at #.",
             figures: [Some(Name(begin.node)), Some(Number(low)), None],
-            todo: "send a session nothing that the node took before its `open`; see whether that, and `start`, are written in time.",
         },
-        Cause::ExtraLive { frame } => Row {
-            id: "extra-live",
+        Cause::ExtraLive { frame } => Shown {
             records: One(Got(frame)),
-            why: "The node sent the session an entry that was not addressed to it.",
             figures: [None; 3],
-            todo: "look at how the node picks the sessions of a room.",
         },
-        Cause::JoinMissing { frame } => Row {
-            id: "join-missing",
+        Cause::JoinMissing { frame } => Shown {
             records: One(Got(frame)),
-            why: "What came would fit if the session had joined a room of the entry before: a `join` may be missing.",
             figures: [None; 3],
-            todo: "write a `join` at once, unbuffered; look at whether the session was in that room.",
         },
-        Cause::LeaveMissing { frame } => Row {
-            id: "leave-missing",
+        Cause::LeaveMissing { frame } => Shown {
             records: One(Got(frame)),
-            why: "What came would fit if the session had left a room before: a `leave` may be missing.",
             figures: [None; 3],
-            todo: "write a `leave` at once, unbuffered; look at whether the session was in that room.",
         },
         Cause::RecoveryNotRecorded {
             stay,
             recoveries,
             turns,
-        } => Row {
-            id: "recovery-not-recorded",
+        } => Shown {
             records: Two(Ask(stay), Reply(stay)),
-            why: "The client was taken back more often (#) than the logs have turns after the first (#): a turn is missing.",
             figures: [
                 Some(Number(recoveries as u64)),
                 Some(Number(turns as u64)),
                 None,
             ],
-            todo: "tap each node, from its start, and write its log unbuffered.",
         },
         Cause::MissingBreak {
             turn,
             begin,
             back,
             stay: Some(stay),
-        } => Row {
-            id: "missing-break",
+        } => Shown {
             records: Four(Node(begin), Node(back), Ask(stay), Reply(stay)),
-            why: "The client recovered the session after turn #, so that turn broke; no log has its break.",
             figures: [Some(Number(turn as u64)), None, None],
-            todo: "write a node's log unbuffered; see whether it ended there, or the node was restarted; look at the disk and at how logs are rotated.",
         },
         Cause::MissingBreak {
             turn,
             begin,
             back,
             stay: None,
-        } => Row {
-            id: "missing-break",
+        } => Shown {
             records: Two(Node(begin), Node(back)),
-            why: "The next turn begins, so turn # broke; no log has its break.",
             figures: [Some(Number(turn as u64)), None, None],
-            todo: "write a node's log unbuffered; see whether it ended there, or the node was restarted; look at the disk and at how logs are rotated.",
         },
-        Cause::MissingBack { turn, next } => Row {
-            id: "missing-back",
+        Cause::MissingBack { turn, next } => Shown {
             records: One(Node(next)),
-            why: "The session had turn #, by its `break` or a later turn; no log has its `back`.",
             figures: [Some(Number(turn as u64)), None, None],
-            todo: "write a node's log from its start, unbuffered; look at whether one ended early, or lost lines.",
         },
-        Cause::ClearedAfterBreak { broke, cleared } => Row {
-            id: "cleared-after-break",
+        Cause::ClearedAfterBreak { broke, cleared } => Shown {
             records: Two(Node(broke), Node(cleared)),
-            why: "The log of # clears the session up after its break, by a `leave` or its `gone`.",
             figures: [Some(Name(cleared.node)), None, None],
-            todo: "write no `leave` and no `gone` for what is cleared up after a break.",
         },
-        Cause::TurnNotStored { turn, first, again } => Row {
-            id: "turn-not-stored",
+        Cause::TurnNotStored { turn, first, again } => Shown {
             records: Two(Node(first), Node(again)),
-            why: "Two records take the session back as turn #; a log ends that turn, or the client has a recovery for each.",
             figures: [Some(Number(turn as u64)), None, None],
-            todo: "store the turn with the session, and write the next one into its `back`.",
         },
-        Cause::RecoveredTwice { turn, first, again } => Row {
-            id: "recovered-twice",
+        Cause::RecoveredTwice { turn, first, again } => Shown {
             records: Two(Node(first), Node(again)),
-            why: "Two nodes took the session back as turn #.",
             figures: [Some(Number(turn as u64)), None, None],
-            todo: "take a stored session out of the store in one step, so that one node alone gets it.",
         },
-        Cause::OpenedTwice { first, again } => Row {
-            id: "opened-twice",
+        Cause::OpenedTwice { first, again } => Shown {
             records: Two(Node(first), Node(again)),
-            why: "The log of # has an `open` of the session, and that of # has another.",
             figures: [Some(Name(first.node)), Some(Name(again.node)), None],
-            todo: "give each session a pid of its own; see whether two taps have one node's log.",
         },
-        Cause::OpenNotRecorded { first: Some(first) } => Row {
-            id: "open-not-recorded",
+        Cause::OpenNotRecorded { first: Some(first) } => Shown {
             records: One(Node(first)),
-            why: "The log of # has records of the session, and no log has its `open`.",
             figures: [Some(Name(first.node)), None, None],
-            todo: "write an `open` when the session opens, unbuffered; look at how logs are rotated.",
         },
-        Cause::OpenNotRecorded { first: None } => Row {
-            id: "open-not-recorded",
+        Cause::OpenNotRecorded { first: None } => Shown {
             records: Nothing,
-            why: "No log has a record of the session, though a node is tapped: its `open` may be missing.",
             figures: [None; 3],
-            todo: "write an `open` when the session opens, unbuffered; look at how logs are rotated.",
         },
-        Cause::NodeNotTapped { turn } => Row {
-            id: "node-not-tapped",
+        Cause::NodeNotTapped { turn } => Shown {
             records: Nothing,
-            why: "No node's log has the begin of turn #.",
             figures: [Some(Number(turn as u64)), None, None],
-            todo: "tap each node, from its start.",
         },
-        Cause::NoStart { first } => Row {
-            id: "no-start",
+        Cause::NoStart { first } => Shown {
             records: One(Node(first)),
-            why: "The log of # does not begin with a `start`.",
             figures: [Some(Name(first.node)), None, None],
-            todo: "begin a node's log with a `start`, when the node starts.",
         },
-        Cause::RestartedInOldLog { start } => Row {
-            id: "restarted-in-old-log",
+        Cause::RestartedInOldLog { start } => Shown {
             records: One(Node(start)),
-            why: "# started again in its old log.",
             figures: [Some(Name(start.node)), None, None],
-            todo: "begin a new log, of another name, each time that a node starts.",
         },
         Cause::EntriesSkippedByNode {
             taken,
             cursor,
             position,
-        } => Row {
-            id: "entries-skipped-by-node",
+        } => Shown {
             records: One(Node(taken)),
-            why: "# took entry # with its cursor at #.",
             figures: [
                 Some(Name(taken.node)),
                 Some(Number(position)),
                 Some(Number(cursor)),
             ],
-            todo: "write a `take` for each entry before it is sent, unbuffered.",
         },
         Cause::EntryTakenAgain {
             taken,
             cursor,
             position,
-        } => Row {
-            id: "entry-taken-again",
+        } => Shown {
             records: One(Node(taken)),
-            why: "# took entry # again, with its cursor at #.",
             figures: [
                 Some(Name(taken.node)),
                 Some(Number(position)),
                 Some(Number(cursor)),
             ],
-            todo: "let a node take each entry once, in the order of the stream.",
         },
-        Cause::NotInStream { taken } => Row {
-            id: "not-in-stream",
+        Cause::NotInStream { taken } => Shown {
             records: One(Node(taken)),
-            why: "# names an entry that the stream's tap doesn't have.",
             figures: [Some(Name(taken.node)), None, None],
-            todo: "tap the stream before the nodes, and stop its tap after them.",
         },
-        Cause::TwoTaps { taps } => Row {
-            id: "two-taps",
+        Cause::TwoTaps { taps } => Shown {
             records: Nothing,
-            why: "# taps of clients name the session.",
             figures: [Some(Number(taps as u64)), None, None],
-            todo: "keep one name of a tap for a client's whole life.",
         },
-        Cause::NoClientTap => Row {
-            id: "no-client-tap",
+        Cause::NoClientTap => Shown {
             records: Nothing,
-            why: "No tap of a client names the session.",
             figures: [None; 3],
-            todo: "tap the client before its first connection.",
         },
-        Cause::ReplyMissing { client } => Row {
-            id: "reply-missing",
+        Cause::ReplyMissing { client } => Shown {
             records: Nothing,
-            why: "The tap of # has a CONNECT or events, and no reply that names their session.",
             figures: [Some(Name(client)), None, None],
-            todo: "begin a client's tap before its first packet, and record each answer to a CONNECT.",
         },
-        Cause::ClientTapHasNoPackets { client } => Row {
-            id: "client-tap-has-no-packets",
+        Cause::ClientTapHasNoPackets { client } => Shown {
             records: Nothing,
-            why: "The first connection in the tap of # has no packet: it may be the session's.",
             figures: [Some(Name(client)), None, None],
-            todo: "begin to record a connection's packets before its first one; see why it ended.",
         },
-        Cause::SidDiffers { stay } => Row {
-            id: "sid-differs",
+        Cause::SidDiffers { stay } => Shown {
             records: One(Reply(stay)),
-            why: "The reply has another sid than the session was opened with.",
             figures: [None; 3],
-            todo: "write the session's sid into the node's log, not that of the transport.",
         },
-        Cause::NamespaceDiffers { stay } => Row {
-            id: "namespace-differs",
+        Cause::NamespaceDiffers { stay } => Shown {
             records: One(Reply(stay)),
-            why: "The reply is of another namespace than the session was opened in.",
             figures: [None; 3],
-            todo: "write the namespace in which the session was opened.",
         },
-        Cause::NotAPacket { why } => Row {
-            id: "not-a-packet",
+        Cause::NotAPacket { why } => Shown {
             records: One(Bad),
-            why: no_packet_words(why),
             figures: no_packet_figures(why),
-            todo: advice(why),
         },
-        Cause::TapBeganLate { stay } => Row {
-            id: "tap-began-late",
+        Cause::TapBeganLate { stay } => Shown {
             records: One(First(stay)),
-            why: "Events came in a stay without a reply, and no session was asked for in it.",
             figures: [None; 3],
-            todo: "begin a client's tap before its first packet.",
         },
-        Cause::CutBeforeReply { stay } => Row {
-            id: "cut-before-reply",
+        Cause::CutBeforeReply { stay } => Shown {
             records: One(First(stay)),
-            why: "The client asked for a session, and events came, but no reply did.",
             figures: [None; 3],
-            todo: "nothing, where the client came back; else look at why the connection was cut.",
         },
-        Cause::ReplyWithoutPid { stay } => Row {
-            id: "reply-without-pid",
+        Cause::ReplyWithoutPid { stay } => Shown {
             records: One(First(stay)),
-            why: "The reply names no session: the server recovers none there.",
             figures: [None; 3],
-            todo: "let the server recover sessions in this namespace.",
         },
-        Cause::OutAfterAnswer { before, stay } => Row {
-            id: "out-after-answer",
+        Cause::OutAfterAnswer { before, stay } => Shown {
             records: Two(First(before), First(stay)),
-            why: "The namespace was answered before on this connection; the CONNECT may be recorded after its answer.",
             figures: [None; 3],
-            todo: "record what the client sends before it is sent.",
         },
-        Cause::SecondConnect { before, stay } => Row {
-            id: "second-connect",
+        Cause::SecondConnect { before, stay } => Shown {
             records: Two(First(before), First(stay)),
-            why: "The namespace was answered before on this connection; the client may have sent a second CONNECT.",
             figures: [None; 3],
-            todo: "connect to a namespace once, and not again while its session goes on.",
         },
-        Cause::AfterDisconnect { before, stay } => Row {
-            id: "after-disconnect",
+        Cause::AfterDisconnect { before, stay } => Shown {
             records: Two(First(before), First(stay)),
-            why: "Events came after a DISCONNECT from the namespace on this connection.",
             figures: [None; 3],
-            todo: "record what a client takes in: nothing of a namespace after its DISCONNECT.",
         },
-        Cause::SessionOver { gone } => Row {
-            id: "session-over",
+        Cause::SessionOver { gone } => Shown {
             records: One(Node(gone)),
-            why: "The log of # ends the session.",
             figures: [Some(Name(gone.node)), None, None],
-            todo: "keep a session that a client may come back to, for as long as it may.",
         },
-        Cause::NodeEndedInTurn { last } => Row {
-            id: "node-ended-in-turn",
+        Cause::NodeEndedInTurn { last } => Shown {
             records: One(Node(last)),
-            why: "The log of # ends in the session's last turn.",
             figures: [Some(Name(last.node)), None, None],
-            todo: "see whether the node was killed: then it stored no session, and waiting can't help.",
         },
-        Cause::NeverBroken { begin } => Row {
-            id: "never-broken",
+        Cause::NeverBroken { begin } => Shown {
             records: One(Node(begin)),
-            why: "No log has a break of the session's last turn.",
             figures: [None; 3],
-            todo: "let the client wait longer before it comes back, or the server notice a break sooner.",
         },
         Cause::AskedTooEarly {
             broke,
             begin,
             high,
             low,
-        } => Row {
-            id: "asked-too-early",
+        } => Shown {
             records: Two(Node(broke), Node(begin)),
-            why: "The session broke with its node's cursor at #; another was opened instead with the cursor at #.",
             figures: [Some(Number(high)), Some(Number(low)), None],
-            todo: "let the client wait longer before it comes back, or the server notice a break sooner.",
         },
     }
 }

@@ -95,11 +95,7 @@ fn is_written_again(turn: usize, place: RecordPlace, before: Option<TurnMark>) -
 }
 
 /// The turn, where another record than this is the first that begins it.
-fn begun_twice(
-    begins: &[Option<RecordPlace>],
-    turn: usize,
-    again: RecordPlace,
-) -> Option<Twice>
+fn begun_twice(begins: &[Option<RecordPlace>], turn: usize, again: RecordPlace) -> Option<Twice>
     ensures { result ≡ begun_twice turn again (slice_get begins.now turn) }
 {
     let Some(Some(first)) = begins.get(turn) else {
