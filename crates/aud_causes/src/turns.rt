@@ -1,7 +1,7 @@
 //! What a break in the chain of a session's turns may come from.
 ghost use Rattle.std.specs.Prelude.{◌≡◌, ◌++◌, ◌<◌, IfOk, OnOk, Some, length, map};
 ghost use Rattle.std.specs.Option.{option_copied};
-ghost use Rattle.aud_causes.specs.Chain.{chain_causes};
+ghost use Rattle.aud_causes.specs.Chain.{causes_of_marks, chain_causes};
 ghost use Rattle.aud_causes.specs.Private.Noting.{break_in, with_begin, with_break};
 ghost use Rattle.aud_causes.specs.Turns.{after_begin, begins_of, begun_turn, breaks_of, broken_turn, count_with, ended_by, ended_turn, ends_of, is_after_begin, is_past_turn, is_untapped, missing_back, missing_break, missing_breaks, missing_causes, not_tapped, recovery_after, turn_count, unbegun, unbroken_at};
 
@@ -39,15 +39,26 @@ pub(crate) fn chain_causes(
     let begins = begins_of(alloc, marks)?;
     let ended = ends_of(alloc, marks)?;
     let came = recoveries(alloc, stays)?;
-    let mut found = missing_causes(alloc, marks, &begins, &ended, &came)?;
+    causes_of_marks(alloc, logs, pid, marks, &begins, &ended, &came)
+}
+
+/// The causes, where these are the begins of the session's turns, whether their logs end them, and the recoveries of its
+/// client.
+fn causes_of_marks(
+    alloc: Global,
+    logs: &Logs<'_>,
+    pid: &str,
+    marks: &[TurnMark],
+    begins: &[Option<RecordPlace>],
+    ended: &[bool],
+    came: &[usize],
+) -> Result<Vec<Cause>, AllocError>
+    ensures { IfOk result (λ found. found.items
+        ≡ causes_of_marks logs.now pid.now marks.now begins.now ended.now came.now) }
+{
+    let mut found = missing_causes(alloc, marks, begins, ended, came)?;
     push_cleared(logs, pid, &mut found)?;
-    push_twice(
-        &mut found,
-        &begins,
-        &ended,
-        is_as_often(marks, &came),
-        marks,
-    )?;
+    push_twice(&mut found, begins, ended, is_as_often(marks, came), marks)?;
     push_cause(&mut found, opened_twice(marks))?;
     Ok(found)
 }
