@@ -69,17 +69,17 @@ missing_listed : (marks : List TurnMark) (begins : List (Option RecordPlace)) (b
 missing_listed marks begins broken ended came =
     let turn = unbegun 0 begins in
     let back = option_to_list (missing_back marks begins) in
-    of_both in_chain (option_to_list (not_tapped broken 0 begins)) (back ++ missing_breaks begins broken ended came)
+    of_both in_chain (option_to_list (not_tapped broken 0 begins) ++ back) (missing_breaks begins broken ended came)
+    (of_both in_chain (option_to_list (not_tapped broken 0 begins)) back
     (of_list in_chain (not_tapped broken 0 begins) (not_tapped_listed broken 0 begins))
-    (of_both in_chain back (missing_breaks begins broken ended came)
-    (of_list in_chain (missing_back marks begins) (of_map in_chain (MissingBack turn) (λ next. refl) (after_begin turn (is_broken marks (turn - 1)) marks)))
+    (of_list in_chain (missing_back marks begins) (of_map in_chain (MissingBack turn) (λ next. refl) (after_begin turn (is_broken marks (turn - 1)) marks))))
     (of_each in_chain (λ turn. option_to_list (missing_break begins broken ended came turn))
     (λ turn.
     of_list in_chain (missing_break begins broken ended came turn)
     (of_map in_chain (missing_by (length begins) came)
     (λ (u : Unbroken). missing_break_listed u.turn u.begin u.back (recovery_after (length begins) came u.turn))
     (unbroken_at begins broken ended turn)))
-    (numbers_from 0 (length begins))))
+    (numbers_from 0 (length begins)))
 
 cleared_by_listed : (broke place : RecordPlace) (r : Option NodeRec) → OfSome in_chain (cleared_by broke place r)
 cleared_by_listed broke place (Some (rec.Leave pid room)) = refl

@@ -17,7 +17,7 @@ returns c =
     let why = option_map reason_of c.why_not_due-why.result in
     let told : (made : IsMade cluster a.cert.pid a.cert) → why ≡ why_not_due cluster made.who made.turns c.args.position =
     subst (λ l. (made : IsMade l a.cert.pid a.cert) → why ≡ why_not_due l made.who made.turns c.args.position) c.logs-logs.ensures c.why_not_due-why.ensures.why in
-    let stays_are = c.as_slice-stays.ensures.value ∙ ap (λ (x : Account). x.stays.items) c.account.view_is in
+    let stays_are = c.as_slice-stays.ensures.value in
     let turns_are = c.as_slice-turns.ensures.value ∙ ap (λ (x : Account). x.cert.turns) c.account.view_is in
     let spans_are = c.as_slice-spans.ensures.value ∙ ap (λ (x : Account). x.cert.spans) c.account.view_is in
     let came_is = c.as_slice.ensures.value ∙ c.in_ok-came.ensures ∙ ap (λ ss. positions_received (map (λ stay. stay.now) ss)) stays_are in
