@@ -309,7 +309,7 @@ fn all_causes<'l>(alloc: Global, lines: &'l [u64]) -> Result<Vec<Cause<'l>>, All
 /// Adds the rows that begin turns.
 fn push_rows(out: &mut String, from: u64, past: u64) -> Result<(), AllocError> {
     for line in from..past {
-        writeln!(out, "{line:>8} a    back {line}, cursor 0")?;
+        writeln!(out, "{line:8} a    back {line}, cursor 0")?;
     }
     Ok(())
 }
@@ -402,7 +402,7 @@ fn refused_recoveries(rt: HostRuntime) -> Result<(), Fail> {
             continue;
         }
         wanted.push_str("refused recovery: got session \"a b\", missed: not known\n")?;
-        writeln!(&mut wanted, "{line:>8} c  conn 1 asks P, no offset")?;
+        writeln!(&mut wanted, "{line:8} c  conn 1 asks P, no offset")?;
     }
     assert_eq!(rt; text.as_str(), wanted.as_str());
     let json = explanation_json(alloc, &[], &explanation)?;
