@@ -11,5 +11,5 @@ loop-number-preserved c =
     let i = c.loop-number.number in
     c.is_either-named.ensures
     ∙ ap (λ b. b || c.names_entry.result) c.loop-number.invariant
-    ∙ ap (λ b. list_any named (numbers_from 0 i) || b) (c.names_entry.ensures ∙ ap (names_entry c.args.off.now) c.get.ensures)
+    ∙ ap (λ b. list_any named (numbers_from 0 i) || b) (c.names_entry.ensures ∙ ap (names_entry c.args.off.now) (c.get.ensures ∙ ap (λ recs. slice_get recs i) c.recs-recs.ensures))
     ∙ sym (any-more named i)
