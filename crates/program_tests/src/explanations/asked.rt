@@ -404,8 +404,7 @@ client c1, namespace /, connection 2, turns 3, delivery not judged
     turn 0  a  6 open, cursor 0 == take 1 == 8 break, cursor 1
     turn 1  a  10 back, cursor 2 == 20 break, cursor 2
     turn 2  a  21 back, cursor 2 == 25 gone, cursor 2
-    client  13 reply  14 got 1  15 lost  17 asks after 1  18 got 2  19 lost  23 asks after 2
-        24 reply
+    client  13 reply  14 got 1  15 lost  23 asks after 2  24 reply
 cause cut-before-reply (certain, line 17): The client asked for a session, and events came, but no
         reply did.
 do: nothing, where the client came back; else look at why the connection was cut.
