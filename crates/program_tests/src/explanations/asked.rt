@@ -413,14 +413,10 @@ sessions: *"#,
     r#"explain
 @TWICE
 -> Ok(AllYes)
-yes P got=1 tail=0 turns=2 [delivery]
+sessions: 1, yes: 1, no: 0
 *
-refused recovery: got no session, missed: not known
-      15 c1  conn 2 asks P after o1
-refused recovery: got no session, missed: not known
-      18 c1  conn 3 asks P after o1
-
-sessions: *"#,
+recoveries asked for: 3, granted: 3, refused: 0
+*"#,
     // Entry 2 was not missed: it came in the session between.
     r#"explain
 @ELSEWHERE

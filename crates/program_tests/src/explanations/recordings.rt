@@ -95,7 +95,7 @@ no one client, turns 1, delivery not judged
     line tap              record
        4 node-number-one  open, sid s1, namespace /, cursor 0
        5 node-number-one  gone  earlier
-       6 node-number-one  join room\x0a\x1b[2J  <- does not fit in the turns
+       6 node-number-one  join "room\x0a\x1b[2J"  <- does not fit in the turns
     turn 0  node-number-one  4 open, cursor 0 == 5 gone, cursor 0
 no known cause of the fault holds
 
@@ -151,13 +151,13 @@ a {"k":"start","off":null}
 no P ORDER [recording]
 no one client, turns 1, delivery not judged
     line tap  record
-       8 a    join r of Q\\  earlier
+       8 a    join r of "Q\\"  earlier
        9 a    start, cursor 0  <- out of order
     turn 0  a  4 open, cursor 0 == 9 log ends, cursor 0
 cause restarted-in-old-log (certain, line 9): a started again in its old log.
 do: begin a new log, of another name, each time that a node starts.
 
-no Q\\ ORDER [recording]
+no "Q\\" ORDER [recording]
 no one client, turns 1, delivery not judged
     line tap  record
        8 a    join r  earlier

@@ -140,7 +140,7 @@ c1 1  line 10  {"k":"in","t":"40{\"sid\":\"s1\",\"pid\":\"P\"}"}
 -> Ok(AllYes)
 {"file":null,"file_line":null,"line":2,"number":0,"record":{"k":"ev","nsp":"/","off":"1-0","rooms":["r"],"text":"2[\"hi\",\"1-0\"]"},"tap":"st","v":1}
 "#,
-    "explain --record st 0 a b\\\u{202e}\n@EMPTY UNSEEN\n-> Ok(AllYes)\nst 0  line 2  (b\\\\\\u{202e}:2)  {\"k\":\"ev\",\"nsp\":\"/\",\"off\":\"1\",\"rooms\":[\"\u{e9}\\ufeff\"],\"text\":\"2[\\\"\\u202e\\u007f\\\",\\\"1\\\"]\"}\n",
+    "explain --record st 0 a b\\\u{202e}\n@EMPTY UNSEEN\n-> Ok(AllYes)\nst 0  line 2  (\"b\\\\\\u{202e}\":2)  {\"k\":\"ev\",\"nsp\":\"/\",\"off\":\"1\",\"rooms\":[\"\u{e9}\\ufeff\"],\"text\":\"2[\\\"\\u202e\\u007f\\\",\\\"1\\\"]\"}\n",
     r#"explain --json --record a 1 a.jsonl b.jsonl
 @FIRST
 a {"k":"start","off":null}
