@@ -393,7 +393,7 @@ def lines_beyond_those_that_are_kept(folder: Path) -> None:
 
 
 # files of a recording, each with its name as it is printed
-PRINTED = {"one.jsonl": "one.jsonl", "two\\2": "two\\\\2", "three\x1b[2J\u202e": "three\\x1b[2J\\u{202e}", "\u200b": "\\u{200b}"}
+PRINTED = {"one.jsonl": "one.jsonl", "two\\2": '"two\\\\2"', "three\x1b[2J\u202e": '"three\\x1b[2J\\u{202e}"', "\u200b": '"\\u{200b}"'}
 ROW = re.compile(r" *(\d+) \S+ +.*  \((.*):(\d+)\)")
 
 
