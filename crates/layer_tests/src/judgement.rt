@@ -2,9 +2,10 @@
 //! what is due, runs, packets and stays, certificates, the answers on them, and verdicts. The values are those that the
 //! rules of docs/FORMAT.md and docs/MODEL.md give.
 //!
-//! Begin at [`asked`]: each other module has bundles, and a table of what is asked of them, each with the text of the
-//! answer.
+//! Begin at [`asked`]: the other modules have bundles, and tables of what is asked of them, each with the text of the
+//! answer; and [`answers`] asks.
 
+mod answers;
 mod asked;
 mod certificates;
 mod clients;

@@ -45,20 +45,12 @@ fn input<H: Threads + Sync>(
     reader.finish(rt, threads)
 }
 
-/// How many taps so many threads read of a text.
-fn read<H: Threads + Sync>(
-    rt: &H,
-    alloc: Global,
-    keys: RandomState,
-    threads: usize,
-    text: &[u8],
-) -> Result<usize, ReadFault> {
-    Ok(input(rt, alloc, keys, threads, text)?.taps.as_slice().len())
-}
-
-/// Whether the records of the first tap are the takes of the lines after its header.
+/// Whether there is one tap, and its records are the takes of the lines after its header.
 fn are_right_takes(alloc: Global, input: &Input) -> Result<bool, AllocError> {
-    let Some(Records::Node(records)) = input.taps.as_slice().first().map(|tap| &tap.records) else {
+    let [tap] = input.taps.as_slice() else {
+        return Ok(false);
+    };
+    let Records::Node(records) = &tap.records else {
         return Ok(false);
     };
     for number in 2..=LINES {
@@ -72,34 +64,39 @@ fn are_right_takes(alloc: Global, input: &Input) -> Result<bool, AllocError> {
     Ok(records.len() == LINES as usize - 1)
 }
 
-#[test]
-fn any_number_of_threads_refuses_the_same_line(rt: HostRuntime) -> Result<(), Fail> {
-    let keys = RandomState::new(&rt)?;
-    let text = text(rt.alloc(), 30_000, 39_000)?;
-    let refused = Err(ReadFault::Input(30_000, InputCode::NotJson));
-    assert!(rt; read(&rt, rt.alloc(), keys, 1, text.as_bytes()) == refused);
-    assert!(rt; read(&rt, rt.alloc(), keys, 4, text.as_bytes()) == refused);
-    Ok(())
+/// Whether so many threads refuse this line of a text, or read the takes of all its lines.
+fn is_read<H: Threads + Sync>(
+    rt: &H,
+    alloc: Global,
+    keys: RandomState,
+    threads: usize,
+    text: &[u8],
+    refused: Option<u64>,
+) -> Result<bool, AllocError> {
+    match (input(rt, alloc, keys, threads, text), refused) {
+        (Ok(input), None) => are_right_takes(alloc, &input),
+        (Err(fault), Some(line)) => Ok(fault == ReadFault::Input(line, InputCode::NotJson)),
+        _ => Ok(false),
+    }
 }
 
-#[test]
-fn the_lines_that_still_wait_are_read_at_the_end(rt: HostRuntime) -> Result<(), Fail> {
-    let keys = RandomState::new(&rt)?;
-    let last = text(rt.alloc(), LINES, LINES)?;
-    let refused = Err(ReadFault::Input(u64::from(LINES), InputCode::NotJson));
-    assert!(rt; read(&rt, rt.alloc(), keys, 4, last.as_bytes()) == refused);
-    let none = text(rt.alloc(), 0, 0)?;
-    assert!(rt; read(&rt, rt.alloc(), keys, 4, none.as_bytes()) == Ok(1));
-    Ok(())
-}
+/// Two lines that are no JSON, how many threads read, and the line that is refused.
+static CASES: [(u32, u32, &[usize], Option<u64>); 3] = [
+    (30_000, 39_000, &[1, 4], Some(30_000)),
+    // lines that still wait are read at the end
+    (LINES, LINES, &[4], Some(40_000)),
+    (0, 0, &[1, 2, 4], None),
+];
 
 #[test]
-fn each_line_has_its_own_text_by_any_number_of_threads(rt: HostRuntime) -> Result<(), Fail> {
+fn any_number_of_threads_reads_the_same(rt: HostRuntime) -> Result<(), Fail> {
     let keys = RandomState::new(&rt)?;
-    let text = text(rt.alloc(), 0, 0)?;
-    for threads in [1, 2, 4] {
-        let input = input(&rt, rt.alloc(), keys, threads, text.as_bytes())?;
-        assert!(rt; are_right_takes(rt.alloc(), &input)?);
+    for (first, later, threads, refused) in &CASES {
+        let text = text(rt.alloc(), *first, *later)?;
+        for threads in *threads {
+            let is = is_read(&rt, rt.alloc(), keys, *threads, text.as_bytes(), *refused)?;
+            assert!(rt; is, "{refused:?} by {threads}");
+        }
     }
     Ok(())
 }

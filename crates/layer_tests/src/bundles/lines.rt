@@ -1,16 +1,12 @@
 //! The lines of an input that comes in pieces.
-ghost use Rattle.std.specs.Prelude.{◌≡◌, ◌≤◌, ◌^◌, length, None, IfOk};
-ghost use Rattle.aud_reader.specs.Lines.{lines_of};
+ghost use Rattle.std.specs.Prelude.{◌≡◌, ◌≤◌, ◌^◌, length, IfOk};
 
 use crate::bundles::input::are;
 use aud_reader::{InputCode, Lines, ReadFault, Splitter, next_line};
 use std::alloc::{AllocError, Global};
 
 /// The lines of an input of which each byte is a piece, where every line is taken at once.
-fn lines_of_bytes(alloc: Global, input: &[u8]) -> Result<Lines, ReadFault>
-    ensures { IfOk result (λ lines. lines_of input.now
-        ≡ record { lines = lines; fault = None }) }
-{
+fn lines_of_bytes(alloc: Global, input: &[u8]) -> Result<Lines, ReadFault> {
     let mut splitter = Splitter::new(alloc);
     let mut lines = Lines::new(alloc);
     for byte in input {
@@ -59,31 +55,23 @@ fn blanks(alloc: Global, count: usize) -> Result<Vec<u8>, AllocError>
     vec![in alloc; b' '; count]
 }
 
-/// What is answered to each piece of a line of one byte, one of the blanks, and one that begins with them and a blank
-/// more.
-fn answers(splitter: &mut Splitter, blanks: &[u8]) -> [Result<(), ReadFault>; 6]
-    requires number { splitter.old.number ≡ 1 }
-    requires blanks { length blanks.now ≤ 2 ^ 32 }
-    ensures { splitter.new.number ≤ 2 ^ 34 }
-{
-    [
-        splitter.feed(b"a\n"),
-        splitter.feed(blanks),
-        splitter.feed(b"\r\n"),
-        splitter.feed(blanks),
-        splitter.feed(b" \nb\n"),
-        splitter.feed(b""),
-    ]
-}
-
-/// Whether the third line is refused, when it has one blank too many and from then on.
+/// Whether after a line of one byte and one of the blanks the third line is refused, when it has a blank more, and from
+/// then on.
 fn third_is_refused(splitter: &mut Splitter, blanks: &[u8]) -> bool
     requires number { splitter.old.number ≡ 1 }
     requires blanks { length blanks.now ≤ 2 ^ 32 }
     ensures { splitter.new.number ≤ 2 ^ 34 }
 {
     let refused = Err(ReadFault::Input(3, InputCode::LineTooLong));
-    answers(splitter, blanks) == [Ok(()), Ok(()), Ok(()), Ok(()), refused, refused]
+    let answers = [
+        splitter.feed(b"a\n"),
+        splitter.feed(blanks),
+        splitter.feed(b"\r\n"),
+        splitter.feed(blanks),
+        splitter.feed(b" \nb\n"),
+        splitter.feed(b""),
+    ];
+    answers == [Ok(()), Ok(()), Ok(()), Ok(()), refused, refused]
 }
 
 #[test]

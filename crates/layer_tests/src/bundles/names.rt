@@ -4,30 +4,47 @@ use aud_input::{first_bytes, name_of};
 use aud_tap::{is_session_id, is_tap_name};
 use std::test::Fail;
 
-static TAP_NAMES: [(&str, bool); 15] = [
-    // 1 to 32 bytes
-    ("", false),
-    ("a", true),
-    ("a23456789a123456789b123456789c12", true),
-    ("a23456789a123456789b123456789c123", false),
-    // letters, digits and three marks
-    ("AZ-az_09.st", true),
-    ("a b", false),
-    (" ", false),
-    ("a/b", false),
-    ("a:", false),
-    ("@", false),
-    ("[", false),
-    ("`", false),
-    ("{", false),
-    ("é", false),
-    ("a\u{7f}", false),
+/// Texts, and whether each is a tap's name, of 1 to 32 bytes, and a session's id, of 1 to 128.
+static TEXTS: [(&str, bool, bool); 21] = [
+    ("", false, false),
+    ("a", true, true),
+    ("p", true, true),
+    ("a23456789a123456789b123456789c12", true, true),
+    ("a23456789a123456789b123456789c123", false, true),
+    (
+        "pppppppppppppppppppppppppppppppppppppppppppppppppppppppppppppppp\
+         pppppppppppppppppppppppppppppppppppppppppppppppppppppppppppppppp",
+        false,
+        true,
+    ),
+    (
+        "pppppppppppppppppppppppppppppppppppppppppppppppppppppppppppppppp\
+         ppppppppppppppppppppppppppppppppppppppppppppppppppppppppppppppppp",
+        false,
+        false,
+    ),
+    // letters, digits and three marks in a name, and all visible bytes of ASCII in an id
+    ("AZ-az_09.st", true, true),
+    ("!CjdVH4TQ_vov-1VvgAC5Z~", false, true),
+    ("a b", false, false),
+    (" ", false, false),
+    ("a/b", false, true),
+    ("a:", false, true),
+    ("@", false, true),
+    ("[", false, true),
+    ("`", false, true),
+    ("{", false, true),
+    ("é", false, false),
+    ("a\n", false, false),
+    ("a\u{1f}", false, false),
+    ("a\u{7f}", false, false),
 ];
 
 #[test]
-fn tap_names(rt: HostRuntime) {
-    for (name, wanted) in &TAP_NAMES {
-        assert!(rt; is_tap_name(name) == *wanted, "{name}");
+fn names_and_ids(rt: HostRuntime) {
+    for (text, is_name, is_id) in &TEXTS {
+        assert!(rt; is_tap_name(text) == *is_name, "{text}");
+        assert!(rt; is_session_id(text) == *is_id, "{text}");
     }
 }
 
@@ -82,35 +99,4 @@ fn endings_don_t_make_up_for_each_other(rt: HostRuntime) {
     let one = mixed_ending(r#"2["hi","xxxx","10010-0"]"#, 0, 0);
     let other = mixed_ending(r#"2["hi","xxxx","30000-0"]"#, 0, 0);
     assert!(rt; one >> 32 != other >> 32);
-}
-
-static SESSION_IDS: [(&str, bool); 11] = [
-    // 1 to 128 bytes
-    ("", false),
-    ("p", true),
-    (
-        "pppppppppppppppppppppppppppppppppppppppppppppppppppppppppppppppp\
-         pppppppppppppppppppppppppppppppppppppppppppppppppppppppppppppppp",
-        true,
-    ),
-    (
-        "pppppppppppppppppppppppppppppppppppppppppppppppppppppppppppppppp\
-         ppppppppppppppppppppppppppppppppppppppppppppppppppppppppppppppppp",
-        false,
-    ),
-    // the visible bytes of ASCII
-    ("!CjdVH4TQ_vov-1VvgAC5Z~", true),
-    ("a b", false),
-    (" ", false),
-    ("a\n", false),
-    ("a\u{1f}", false),
-    ("a\u{7f}", false),
-    ("é", false),
-];
-
-#[test]
-fn session_ids(rt: HostRuntime) {
-    for (id, wanted) in &SESSION_IDS {
-        assert!(rt; is_session_id(id) == *wanted, "{id}");
-    }
 }

@@ -2,16 +2,22 @@
 ghost use Rattle.std.specs.Prelude.{None};
 
 use aud_base::{Text, Watched};
-use aud_input::{InputFiles, ReadingFault, RecordLines, Refusal, place_told, read_files};
+use aud_input::{InputFiles, ReadingFault, RecordLines, place_told, read_files};
 use std::alloc::Global;
 use std::hash::RandomState;
 use std::io::{self, Read};
 use std::test::Fail;
 use std::thread::Threads;
 
-/// Inputs, and of each tap the lines of its records.
-static INPUTS: [(&str, &[&[u64]]); 4] = [
-    ("", &[]),
+/// What is read of an input: of each tap the lines of its records, or what is told of the line that is refused.
+enum Wanted {
+    Lines(&'static [&'static [u64]]),
+    /// Its number, its text, and the number of the header of its tap.
+    Refused(u64, &'static str, Option<u64>),
+}
+
+static INPUTS: [(&str, Wanted); 8] = [
+    ("", Wanted::Lines(&[])),
     (
         r#"st {"k":"tap","v":1,"of":"stream"}
 st {"k":"ev","off":"1-0","nsp":"/","rooms":["r"],"text":"2[\"hi\",\"1-0\"]"}
@@ -21,60 +27,41 @@ a {"k":"open","pid":"P","sid":"s1","nsp":"/"}
 c1 {"k":"tap","v":1,"of":"client"}
 c1 {"k":"conn","c":1}
 "#,
-        &[&[2], &[4, 5], &[7]],
+        Wanted::Lines(&[&[2], &[4, 5], &[7]]),
     ),
     // the taps' lines in turn, one empty line, carriage returns, and no newline at the end
     (
         "b {\"k\":\"tap\",\"v\":1,\"of\":\"node\"}\r\na {\"k\":\"tap\",\"v\":1,\"of\":\"node\"}\n\r\n\
          a {\"k\":\"take\",\"off\":\"1\"}\nb {\"k\":\"take\",\"off\":\"1\"}\r\n\
          b {\"k\":\"take\",\"off\":\"1\"}\na {\"k\":\"take\",\"off\":\"1\"}",
-        &[&[5, 6], &[4, 7]],
+        Wanted::Lines(&[&[5, 6], &[4, 7]]),
     ),
     // a line without bytes is of no tap
     (
         "\na {\"k\":\"tap\",\"v\":1,\"of\":\"node\"}\n\na {\"k\":\"take\",\"off\":\"1\"}\n",
-        &[&[4]],
+        Wanted::Lines(&[&[4]]),
     ),
-];
-
-/// An input with a line that is refused, and what is told of that line.
-struct Refused {
-    input: &'static str,
-    number: u64,
-    line: &'static str,
-    header: Option<u64>,
-}
-
-static REFUSED: [Refused; 4] = [
     // the first of two, and a header before it
-    Refused {
-        input: "b {\"k\":\"tap\",\"v\":1,\"of\":\"node\"}\na {\"k\":\"tap\",\"v\":1,\"of\":\"node\"}\n\
-                a {\"k\":1}\r\na {\"k\":2}\n",
-        number: 3,
-        line: "a {\"k\":1}",
-        header: Some(2),
-    },
+    (
+        "b {\"k\":\"tap\",\"v\":1,\"of\":\"node\"}\na {\"k\":\"tap\",\"v\":1,\"of\":\"node\"}\n\
+         a {\"k\":1}\r\na {\"k\":2}\n",
+        Wanted::Refused(3, "a {\"k\":1}", Some(2)),
+    ),
     // at the end, without a newline
-    Refused {
-        input: "b {\"k\":\"tap\",\"v\":1,\"of\":\"node\"}\nb {\"k\":\"take\",\"off\":\"1\"}\nb ",
-        number: 3,
-        line: "b ",
-        header: Some(1),
-    },
+    (
+        "b {\"k\":\"tap\",\"v\":1,\"of\":\"node\"}\nb {\"k\":\"take\",\"off\":\"1\"}\nb ",
+        Wanted::Refused(3, "b ", Some(1)),
+    ),
     // a line that would begin its tap is the first of its name
-    Refused {
-        input: "b {\"k\":\"take\",\"off\":\"1\"}\nb {\"k\":\"tap\",\"v\":1,\"of\":\"node\"}\n",
-        number: 1,
-        line: "b {\"k\":\"take\",\"off\":\"1\"}",
-        header: Some(1),
-    },
+    (
+        "b {\"k\":\"take\",\"off\":\"1\"}\nb {\"k\":\"tap\",\"v\":1,\"of\":\"node\"}\n",
+        Wanted::Refused(1, "b {\"k\":\"take\",\"off\":\"1\"}", Some(1)),
+    ),
     // a certificate names no tap
-    Refused {
-        input: "a {\"k\":\"tap\",\"v\":1,\"of\":\"node\"}\n{\"pid\": \"P\"}\na {\"k\":\"take\",\"off\":\"1\"}\n",
-        number: 2,
-        line: "{\"pid\": \"P\"}",
-        header: None,
-    },
+    (
+        "a {\"k\":\"tap\",\"v\":1,\"of\":\"node\"}\n{\"pid\": \"P\"}\na {\"k\":\"take\",\"off\":\"1\"}\n",
+        Wanted::Refused(2, "{\"pid\": \"P\"}", None),
+    ),
 ];
 
 /// Bytes that come in pieces of at most this size.
@@ -90,45 +77,6 @@ impl Read for Pieces<'_> {
     fn read(&mut self, buf: &mut [u8]) -> io::Result<usize> {
         let given = buf.len().min(self.size);
         self.left.read(&mut buf[..given])
-    }
-}
-
-/// The lines of the records of an input that comes in pieces of this size.
-fn lines_of<H: Threads + Sync>(
-    rt: &H,
-    alloc: Global,
-    keys: RandomState,
-    input: &[u8],
-    size: usize,
-) -> Result<RecordLines, Fail> {
-    let mut files = [Watched::new(Pieces { left: input, size })];
-    let Ok(recorded) = read_files(rt, 1, alloc, keys, &mut files) else {
-        return Err("the input is refused")?;
-    };
-    Ok(recorded.lines)
-}
-
-/// Whether this is told of the line that is refused.
-fn is_told(told: &Refusal, wanted: &Refused) -> bool {
-    told.number == wanted.number
-        && told.line.as_slice() == wanted.line.as_bytes()
-        && told.header == wanted.header
-}
-
-/// Whether this is told of an input that comes in pieces of this size, and is read by so many threads.
-fn is_refused<H: Threads + Sync>(
-    rt: &H,
-    alloc: Global,
-    keys: RandomState,
-    threads: usize,
-    size: usize,
-    wanted: &Refused,
-) -> bool {
-    let left = wanted.input.as_bytes();
-    let mut files = [Watched::new(Pieces { left, size })];
-    match read_files(rt, threads, alloc, keys, &mut files) {
-        Err(ReadingFault::Refused(told)) => is_told(&told, wanted),
-        _ => false,
     }
 }
 
@@ -152,26 +100,43 @@ fn have_lines(lines: &RecordLines, wanted: &[&[u64]]) -> bool {
     lines.line_of(wanted.len(), 0).is_none()
 }
 
-#[test]
-fn records_stand_on_their_lines(rt: HostRuntime) -> Result<(), Fail> {
-    let keys = RandomState::new(&rt)?;
-    for size in [1, 7, 65_536] {
-        for (input, wanted) in &INPUTS {
-            let lines = lines_of(&rt, rt.alloc(), keys, input.as_bytes(), size)?;
-            assert!(rt; have_lines(&lines, wanted), "{size} {input:?}");
+/// Whether this is read of an input that comes in pieces of this size, by so many threads.
+fn is_read<H: Threads + Sync>(
+    rt: &H,
+    alloc: Global,
+    keys: RandomState,
+    threads: usize,
+    input: Pieces<'_>,
+    wanted: &Wanted,
+) -> bool {
+    let mut files = [Watched::new(input)];
+    match (read_files(rt, threads, alloc, keys, &mut files), wanted) {
+        (Ok(recorded), Wanted::Lines(lines)) => have_lines(&recorded.lines, lines),
+        (Err(ReadingFault::Refused(told)), Wanted::Refused(number, line, header)) => {
+            told.number == *number
+                && told.line.as_slice() == line.as_bytes()
+                && told.header == *header
         }
+        _ => false,
     }
-    Ok(())
 }
 
 #[test]
-fn the_refused_line_is_told_with_its_header(rt: HostRuntime) -> Result<(), Fail> {
+fn records_and_refused_lines_are_found(rt: HostRuntime) -> Result<(), Fail> {
     let keys = RandomState::new(&rt)?;
     for size in [1, 7, 65_536] {
         for threads in [1, 4] {
-            for wanted in &REFUSED {
-                let is = is_refused(&rt, rt.alloc(), keys, threads, size, wanted);
-                assert!(rt; is, "{size} {threads} {}", wanted.number);
+            for (input, wanted) in &INPUTS {
+                let left = input.as_bytes();
+                let is = is_read(
+                    &rt,
+                    rt.alloc(),
+                    keys,
+                    threads,
+                    Pieces { left, size },
+                    wanted,
+                );
+                assert!(rt; is, "{size} {threads} {input:?}");
             }
         }
     }

@@ -1,6 +1,6 @@
 //! The fields of each kind of record, and keys that are unknown or stand twice; kinds, pids, and the ranks of offsets.
 use crate::bundles::input::read;
-use aud_reader::{ReadFault, is_client_kind, tap_kind, tap_of_kind};
+use aud_reader::{is_client_kind, tap_kind, tap_of_kind};
 use aud_tap::{Blobs, ClientRec, NodeRec, Rec, StreamRec, TapKind, Texts, Version, rank};
 use std::alloc::Global;
 use std::hash::RandomState;
@@ -102,44 +102,12 @@ fn blobs_are(blobs: &Blobs, wanted: &[&[u8]]) -> bool {
         .eq(wanted.iter().copied())
 }
 
-/// Whether it is an event with these lists.
-fn has_lists(rec: &Rec, rooms: &[&str], except: &[&str], bin: &[&[u8]]) -> bool {
-    match rec {
-        Rec::Stream(StreamRec::Ev(event)) => {
-            texts_are(&event.rooms, rooms)
-                && texts_are(&event.except, except)
-                && blobs_are(&event.bin, bin)
-        }
-        _ => false,
-    }
-}
-
-/// What is looked at in a record: its fields; or of an event its rooms, the rooms that it excepts, and its attachments.
-#[derive(Clone, Copy, Drop)]
-enum Part<'a> {
-    Fields(&'a Fields<'a>),
-    Lists(&'a [&'a str], &'a [&'a str], &'a [&'a [u8]]),
-}
-
-fn has_part(rec: &Rec, wanted: &Part<'_>) -> bool {
-    match wanted {
-        Part::Fields(wanted) => fields(rec) == **wanted,
-        Part::Lists(rooms, except, bin) => has_lists(rec, rooms, except, bin),
-    }
-}
-
-/// Whether it is a record of the tap `t` that has this part.
-fn is_wanted(read: &Result<(String, Rec), ReadFault>, wanted: &Part<'_>) -> bool {
-    match read {
-        Ok((name, rec)) => name.as_str() == "t" && has_part(rec, wanted),
+/// Whether the line is read as a record of the tap `t` with these fields.
+fn has_fields(alloc: Global, keys: RandomState, text: &str, wanted: &Fields<'_>) -> bool {
+    match read(alloc, keys, 1, text.as_bytes()) {
+        Ok((name, rec)) => name.as_str() == "t" && fields(&rec) == *wanted,
         Err(_) => false,
     }
-}
-
-/// Whether the line is read so.
-fn reads_as(alloc: Global, keys: RandomState, text: &str, wanted: &Part<'_>) -> bool {
-    let read = read(alloc, keys, 1, text.as_bytes());
-    is_wanted(&read, wanted)
 }
 
 static RECORDS: [(&str, Fields<'static>); 38] = [
@@ -289,25 +257,38 @@ static RECORDS: [(&str, Fields<'static>); 38] = [
     (r#"t {"k":"lost"}"#, ("Lost", "", "", "", 0)),
 ];
 
-#[test]
-fn fields_are_read(rt: HostRuntime) -> Result<(), Fail> {
-    let keys = RandomState::new(&rt)?;
-    for (text, wanted) in &RECORDS {
-        assert!(rt;
-            reads_as(rt.alloc(), keys, text, &Part::Fields(wanted)),
-            "{text}"
-        );
+/// An event with lists of two.
+const EVENT: &str =
+    r#"t {"k":"ev","off":"4-0","nsp":"/n","rooms":["r"],"except":["s1","s2"],"bin":["AQI=","Aw=="],"text":""}"#;
+
+/// Whether it is an event with those lists.
+fn has_lists(rec: &Rec) -> bool {
+    match rec {
+        Rec::Stream(StreamRec::Ev(event)) => {
+            texts_are(&event.rooms, &["r"])
+                && texts_are(&event.except, &["s1", "s2"])
+                && blobs_are(&event.bin, &[&[1, 2], &[3]])
+        }
+        _ => false,
     }
-    Ok(())
+}
+
+/// Whether it is read with its lists in their order.
+fn lists_are_read(alloc: Global, keys: RandomState) -> bool {
+    match read(alloc, keys, 1, EVENT.as_bytes()) {
+        Ok((_, rec)) => has_lists(&rec),
+        Err(_) => false,
+    }
 }
 
 #[test]
-fn lists_are_read_in_their_order(rt: HostRuntime) -> Result<(), Fail> {
+fn records_are_read(rt: HostRuntime) -> Result<(), Fail> {
     let keys = RandomState::new(&rt)?;
-    let text =
-        r#"t {"k":"ev","off":"4-0","nsp":"/n","rooms":["r"],"except":["s1","s2"],"bin":["AQI=","Aw=="],"text":""}"#;
-    let wanted = Part::Lists(&["r"], &["s1", "s2"], &[&[1, 2], &[3]]);
-    assert!(rt; reads_as(rt.alloc(), keys, text, &wanted));
+    for (text, wanted) in &RECORDS {
+        assert!(rt; has_fields(rt.alloc(), keys, text, wanted), "{text}");
+    }
+    assert!(rt; has_fields(rt.alloc(), keys, EVENT, &("Ev", "4-0", "/n", "", 0)));
+    assert!(rt; lists_are_read(rt.alloc(), keys));
     Ok(())
 }
 

@@ -121,18 +121,6 @@ static TEXTS: [(&str, Option<InputCode>); 53] = [
     (r#"a {"k":"in","t":"\ud83d\ude00"}"#, None),
 ];
 
-#[test]
-fn texts_are_refused(rt: HostRuntime) -> Result<(), Fail> {
-    let keys = RandomState::new(&rt)?;
-    for (text, wanted) in &TEXTS {
-        assert!(rt;
-            is_refused(rt.alloc(), keys, text.as_bytes(), *wanted),
-            "{text}"
-        );
-    }
-    Ok(())
-}
-
 /// A stray byte, half a sequence, a longer form than is needed, a surrogate, and what is past the last code point
 /// (RFC 3629, section 3).
 static BYTES: [(&[u8], Option<InputCode>); 10] = [
@@ -152,8 +140,12 @@ static BYTES: [(&[u8], Option<InputCode>); 10] = [
 ];
 
 #[test]
-fn what_is_not_utf8_is_refused(rt: HostRuntime) -> Result<(), Fail> {
+fn lines_are_refused(rt: HostRuntime) -> Result<(), Fail> {
     let keys = RandomState::new(&rt)?;
+    for (text, wanted) in &TEXTS {
+        let is = is_refused(rt.alloc(), keys, text.as_bytes(), *wanted);
+        assert!(rt; is, "{text}");
+    }
     for (bytes, wanted) in &BYTES {
         assert!(rt; is_refused(rt.alloc(), keys, bytes, *wanted), "{bytes:?}");
     }

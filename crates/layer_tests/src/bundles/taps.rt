@@ -1,6 +1,6 @@
 //! The taps of lines.
 use crate::bundles::input::are;
-use aud_reader::{InputCode, LentLine, Lines, ReadFault, Splitter, read_bundle};
+use aud_reader::{LentLine, Lines, ReadFault, Splitter, read_bundle};
 use aud_tap::{Records, Tap};
 use std::alloc::{AllocError, Global};
 use std::hash::RandomState;
@@ -21,130 +21,80 @@ static SESSION: [&str; 11] = [
     r#"c1 {"k":"in","t":"42[\"hi\",\"1-0\"]"}"#,
 ];
 
-/// The taps in their order, each with its name and how many records it has; or the refusal.
-type Outcome = Result<&'static [(&'static str, usize)], ReadFault>;
-
-fn counted(tap: &Tap) -> (&str, usize) {
-    let count = match &tap.records {
+/// How many records the tap has.
+fn count(tap: &Tap) -> usize {
+    match &tap.records {
         Records::Stream(entries) => entries.len(),
         Records::Node(records) => records.len(),
         Records::Client(records) => records.as_slice().len(),
-    };
-    (tap.name.as_str(), count)
-}
-
-fn are_counted(taps: &[Tap], wanted: &[(&str, usize)]) -> bool {
-    for (tap, wanted) in taps.iter().zip(wanted.iter()) {
-        if counted(tap) != *wanted {
-            return false;
-        }
-    }
-    taps.len() == wanted.len()
-}
-
-/// Whether the lines have these taps, or are refused so.
-fn gives(alloc: Global, keys: RandomState, lines: &Lines, wanted: Outcome) -> bool {
-    match read_bundle(alloc, keys, lines) {
-        Ok(taps) => match wanted {
-            Ok(wanted) => are_counted(taps.as_slice(), wanted),
-            Err(_) => false,
-        },
-        Err(fault) => wanted.err() == Some(fault),
     }
 }
 
-/// Adds the line of this number with this text.
-fn add(lines: &mut Lines, number: u64, text: &str) -> Result<(), AllocError> {
-    lines.push(&LentLine {
-        number,
-        bytes: text.as_bytes(),
-    })
+fn push_counts(told: &mut String, taps: &[Tap]) -> Result<(), AllocError> {
+    for tap in taps {
+        write!(told, "{} {};", tap.name.as_str(), count(tap))?;
+    }
+    Ok(())
+}
+
+/// The taps of the lines in their order, each with its number of records; or the refusal.
+fn told(alloc: Global, keys: RandomState, lines: Lines) -> Result<String, AllocError> {
+    let mut told = String::new(alloc);
+    match read_bundle(alloc, keys, &lines) {
+        Ok(taps) => push_counts(&mut told, taps.as_slice())?,
+        Err(fault) => write!(told, "{fault:?}")?,
+    }
+    Ok(told)
 }
 
 /// The lines with these texts.
 fn lines_of(alloc: Global, texts: &[&str]) -> Result<Lines, AllocError> {
     let mut lines = Lines::new(alloc);
     for (i, text) in texts.iter().enumerate() {
-        add(&mut lines, i as u64 + 1, text)?;
+        lines.push(&LentLine {
+            number: i as u64 + 1,
+            bytes: text.as_bytes(),
+        })?;
     }
     Ok(lines)
 }
 
-/// Whether the session and a twelfth line give these taps, or are refused so.
-fn session_gives(
-    alloc: Global,
-    keys: RandomState,
-    text: &str,
-    wanted: Outcome,
-) -> Result<bool, AllocError> {
-    let mut lines = lines_of(alloc, &SESSION)?;
-    add(&mut lines, 12, text)?;
-    Ok(gives(alloc, keys, &lines, wanted))
-}
-
-/// A twelfth line after those of the session, and the taps or the refusal.
-static TWELFTH: [(&str, Outcome); 11] = [
-    ("", Ok(&[("st", 1), ("a", 4), ("c1", 3)])),
-    (
-        r#"c1 {"k":"conn","c":2}"#,
-        Ok(&[("st", 1), ("a", 4), ("c1", 4)]),
-    ),
-    (r#"c1 {"k":"lost"}"#, Ok(&[("st", 1), ("a", 4), ("c1", 4)])),
-    (
-        r#"b {"k":"take","off":"1-0"}"#,
-        Err(ReadFault::Input(12, InputCode::NoHeader)),
-    ),
-    (
-        r#"b {"k":"tap","v":3,"of":"node"}"#,
-        Err(ReadFault::Input(12, InputCode::Version)),
-    ),
-    (
-        r#"st {"k":"tap","v":1,"of":"stream"}"#,
-        Err(ReadFault::Input(12, InputCode::HeaderTwice)),
-    ),
-    (
-        r#"st2 {"k":"tap","v":1,"of":"stream"}"#,
-        Err(ReadFault::Input(12, InputCode::SecondStream)),
-    ),
-    (
-        r#"st {"k":"take","off":"2-0"}"#,
-        Err(ReadFault::Input(12, InputCode::UnknownKind)),
-    ),
-    (
-        r#"st {"k":"other","off":"1-0"}"#,
-        Err(ReadFault::Input(12, InputCode::OffsetTwice)),
-    ),
-    (
-        r#"c1 {"k":"conn","c":1}"#,
-        Err(ReadFault::Input(12, InputCode::Field)),
-    ),
-    (
-        r#"a {"k":"take","off":"1-"#,
-        Err(ReadFault::Input(12, InputCode::NotJson)),
-    ),
-];
-
-#[test]
-fn lines_are_judged_by_those_before(rt: HostRuntime) -> Result<(), Fail> {
-    let keys = RandomState::new(&rt)?;
-    for (text, wanted) in &TWELFTH {
-        assert!(rt; session_gives(rt.alloc(), keys, text, *wanted)?, "{text}");
+/// The session with these lines in the place of those of their numbers, which count from 1, and after them.
+fn session_with(alloc: Global, others: &[(usize, &'static str)]) -> Result<Lines, AllocError> {
+    let mut texts = SESSION.to_vec(alloc)?;
+    for (number, text) in others {
+        if *number > texts.len() {
+            texts.push(*text)?;
+        } else if let Some(own) = texts.get_mut(number.saturating_sub(1)) {
+            *own = *text;
+        }
     }
-    Ok(())
+    lines_of(alloc, &texts)
 }
 
-/// Lines of the session in another form, by number, and the taps or the refusal.
-static ALTERED: [(&[(usize, &str)], Outcome); 5] = [
-    (
-        &[(7, r#"a {"k":"takes","off":"1-0"}"#)],
-        Err(ReadFault::Input(7, InputCode::UnknownKind)),
-    ),
+/// Other lines of the session, by number, and its taps or the refusal.
+#[rattlefmt::skip]
+static SESSIONS: [(&[(usize, &str)], &str); 16] = [
+    // a twelfth line is judged by those before
+    (&[(12, "")], "st 1;a 4;c1 3;"),
+    (&[(12, r#"c1 {"k":"conn","c":2}"#)], "st 1;a 4;c1 4;"),
+    (&[(12, r#"c1 {"k":"lost"}"#)], "st 1;a 4;c1 4;"),
+    (&[(12, r#"b {"k":"take","off":"1-0"}"#)], "Input(12, NoHeader)"),
+    (&[(12, r#"b {"k":"tap","v":3,"of":"node"}"#)], "Input(12, Version)"),
+    (&[(12, r#"st {"k":"tap","v":1,"of":"stream"}"#)], "Input(12, HeaderTwice)"),
+    (&[(12, r#"st2 {"k":"tap","v":1,"of":"stream"}"#)], "Input(12, SecondStream)"),
+    (&[(12, r#"st {"k":"take","off":"2-0"}"#)], "Input(12, UnknownKind)"),
+    (&[(12, r#"st {"k":"other","off":"1-0"}"#)], "Input(12, OffsetTwice)"),
+    (&[(12, r#"c1 {"k":"conn","c":1}"#)], "Input(12, Field)"),
+    (&[(12, r#"a {"k":"take","off":"1-"#)], "Input(12, NotJson)"),
+    // takes is read in version 2 alone
+    (&[(7, r#"a {"k":"takes","off":"1-0"}"#)], "Input(7, UnknownKind)"),
     (
         &[
             (3, r#"a {"k":"tap","v":2,"of":"node"}"#),
             (7, r#"a {"k":"takes","off":"1-0"}"#),
         ],
-        Ok(&[("st", 1), ("a", 4), ("c1", 3)]),
+        "st 1;a 4;c1 3;",
     ),
     (
         &[
@@ -152,138 +102,83 @@ static ALTERED: [(&[(usize, &str)], Outcome); 5] = [
             (3, r#"a {"k":"tap","v":2,"of":"node"}"#),
             (8, r#"c1 {"k":"tap","v":2,"of":"client"}"#),
         ],
-        Ok(&[("st", 1), ("a", 4), ("c1", 3)]),
+        "st 1;a 4;c1 3;",
     ),
     (
         &[
             (8, r#"c1 {"k":"tap","v":2,"of":"client"}"#),
             (11, r#"c1 {"k":"takes","off":"1-0"}"#),
         ],
-        Err(ReadFault::Input(11, InputCode::UnknownKind)),
+        "Input(11, UnknownKind)",
     ),
-    (
-        &[(3, r#"a {"k":"tap","v":3,"of":"node"}"#)],
-        Err(ReadFault::Input(3, InputCode::Version)),
-    ),
+    (&[(3, r#"a {"k":"tap","v":3,"of":"node"}"#)], "Input(3, Version)"),
 ];
 
-/// The session with these lines in the place of those of their numbers, which count from 1.
-fn altered(alloc: Global, others: &[(usize, &str)]) -> Result<Lines, AllocError> {
-    let mut lines = Lines::new(alloc);
-    for (i, text) in SESSION.iter().enumerate() {
-        let mut text = *text;
-        for (number, other) in others {
-            if *number == i + 1 {
-                text = *other;
-            }
-        }
-        add(&mut lines, i as u64 + 1, text)?;
-    }
-    Ok(lines)
-}
-
-#[test]
-fn takes_is_read_in_version_2_alone(rt: HostRuntime) -> Result<(), Fail> {
-    let keys = RandomState::new(&rt)?;
-    for (others, wanted) in &ALTERED {
-        let lines = altered(rt.alloc(), others)?;
-        assert!(rt; gives(rt.alloc(), keys, &lines, *wanted));
-    }
-    Ok(())
-}
-
-#[test]
-fn the_first_refusal_is_given(rt: HostRuntime) -> Result<(), Fail> {
-    let keys = RandomState::new(&rt)?;
-    let texts = [
-        SESSION[7],
-        r#"c1 {"k":"lost"}"#,
-        r#"c1 {"k":"conn","c":1}"#,
-        r#"b {"k":"take","off":"1-0"}"#,
-    ];
-    let lines = lines_of(rt.alloc(), &texts)?;
-    let refused = Err(ReadFault::Input(2, InputCode::Field));
-    assert!(rt; gives(rt.alloc(), keys, &lines, refused));
-    Ok(())
-}
-
-/// Puts a line at the end, with a carriage return and a newline.
-fn end_line(input: &mut Vec<u8>, text: &str) -> Result<(), AllocError> {
-    input.extend_from_slice(text.as_bytes())?;
-    input.extend_from_slice(b"\r\n")
-}
+/// Lines of which the second, the third and the fourth are refused.
+static REFUSED: [&str; 4] = [
+    r#"c1 {"k":"tap","v":1,"of":"client"}"#,
+    r#"c1 {"k":"lost"}"#,
+    r#"c1 {"k":"conn","c":1}"#,
+    r#"b {"k":"take","off":"1-0"}"#,
+];
 
 /// The session where each line ends in a carriage return and a newline, as an editor on Windows saves it.
-fn windows_session(alloc: Global) -> Result<Vec<u8>, AllocError> {
-    let mut input = Vec::new(alloc);
+fn windows_session(alloc: Global) -> Result<String, AllocError> {
+    let mut input = String::new(alloc);
     for text in &SESSION {
-        end_line(&mut input, text)?;
+        write!(input, "{text}\r\n")?;
     }
     Ok(input)
 }
 
 /// The lines of an input that is one piece.
-fn lines_of_piece(alloc: Global, input: &[u8]) -> Result<Lines, ReadFault> {
+fn lines_of_piece(alloc: Global, input: &str) -> Result<Lines, ReadFault> {
     let mut splitter = Splitter::new(alloc);
-    splitter.feed(input)?;
+    splitter.feed(input.as_bytes())?;
     splitter.finish()
 }
 
-/// Whether an input is read as the session.
-fn is_session(alloc: Global, keys: RandomState, input: &[u8]) -> bool {
-    match lines_of_piece(alloc, input) {
-        Ok(lines) => {
-            are(&lines, &SESSION).unwrap_or(false)
-                && gives(alloc, keys, &lines, Ok(&[("st", 1), ("a", 4), ("c1", 3)]))
-        }
-        Err(_) => false,
+/// The stream's header alone, with blanks at its end up to a length.
+fn padded_header(alloc: Global, length: usize) -> Result<Lines, AllocError> {
+    let mut text = String::from_str(alloc, SESSION[0])?;
+    for _ in text.len()..length {
+        text.push(' ')?;
     }
+    lines_of(alloc, &[text.as_str()])
+}
+
+#[test]
+fn lines_have_taps_or_the_first_refusal(rt: HostRuntime) -> Result<(), Fail> {
+    let (alloc, keys) = (rt.alloc(), RandomState::new(&rt)?);
+    for (number, (others, wanted)) in SESSIONS.iter().enumerate() {
+        let told = told(alloc, keys, session_with(alloc, others)?)?;
+        assert_eq!(rt; told.as_str(), *wanted, "{number}");
+    }
+    let told = told(alloc, keys, lines_of(alloc, &REFUSED)?)?;
+    assert_eq!(rt; told.as_str(), "Input(2, Field)");
+    Ok(())
 }
 
 #[test]
 fn lines_may_end_in_carriage_return_and_newline(rt: HostRuntime) -> Result<(), Fail> {
-    let keys = RandomState::new(&rt)?;
-    let input = windows_session(rt.alloc())?;
-    assert!(rt; is_session(rt.alloc(), keys, &input));
+    let alloc = rt.alloc();
+    let input = windows_session(alloc)?;
+    let lines = lines_of_piece(alloc, input.as_str())?;
+    assert!(rt; are(&lines, &SESSION)?);
+    let told = told(alloc, RandomState::new(&rt)?, lines)?;
+    assert_eq!(rt; told.as_str(), "st 1;a 4;c1 3;");
     Ok(())
 }
 
-/// Puts blanks at the end of a text, up to a length.
-fn pad(text: &mut String, length: usize) -> Result<(), AllocError> {
-    for _ in text.len()..length {
-        text.push(' ')?;
-    }
-    Ok(())
-}
-
-/// Whether a text as the only line gives these taps, or is refused so.
-fn line_gives(
-    alloc: Global,
-    keys: RandomState,
-    text: &str,
-    wanted: Outcome,
-) -> Result<bool, AllocError> {
-    let lines = lines_of(alloc, &[text])?;
-    Ok(gives(alloc, keys, &lines, wanted))
-}
-
-/// Whether the stream's header alone, with blanks at its end up to a length, gives these taps, or is refused so.
-fn padded_header_gives(
-    alloc: Global,
-    keys: RandomState,
-    length: usize,
-    wanted: Outcome,
-) -> Result<bool, AllocError> {
-    let mut text = String::from_str(alloc, SESSION[0])?;
-    pad(&mut text, length)?;
-    line_gives(alloc, keys, text.as_str(), wanted)
-}
+/// Lengths of a line, and what is read of it.
+static LENGTHS: [(usize, &str); 2] = [(4_194_304, "st 0;"), (4_194_305, "Input(1, LineTooLong)")];
 
 #[test]
 fn a_line_of_4194304_bytes_is_read(rt: HostRuntime) -> Result<(), Fail> {
-    let keys = RandomState::new(&rt)?;
-    let too_long = Err(ReadFault::Input(1, InputCode::LineTooLong));
-    assert!(rt; padded_header_gives(rt.alloc(), keys, 4_194_304, Ok(&[("st", 0)]))?);
-    assert!(rt; padded_header_gives(rt.alloc(), keys, 4_194_305, too_long)?);
+    let (alloc, keys) = (rt.alloc(), RandomState::new(&rt)?);
+    for (length, wanted) in &LENGTHS {
+        let told = told(alloc, keys, padded_header(alloc, *length)?)?;
+        assert_eq!(rt; told.as_str(), *wanted);
+    }
     Ok(())
 }

@@ -6,16 +6,6 @@ use std::alloc::{AllocError, Global};
 use std::hash::RandomState;
 use std::test::Fail;
 
-/// Each text, and a newline.
-fn joined(alloc: Global, texts: &[&str]) -> Result<Vec<u8>, AllocError> {
-    let mut bytes = Vec::new(alloc);
-    for text in texts {
-        bytes.extend_from_slice(text.as_bytes())?;
-        bytes.push(b'\n')?;
-    }
-    Ok(bytes)
-}
-
 /// The bytes of the taps that the input is read as.
 fn rewritten(alloc: Global, keys: RandomState, input: &[u8]) -> Result<Vec<u8>, ReadFault> {
     let mut splitter = Splitter::new(alloc);
@@ -26,85 +16,73 @@ fn rewritten(alloc: Global, keys: RandomState, input: &[u8]) -> Result<Vec<u8>, 
 }
 
 /// Whether the lines are read as taps that are written so, and these again.
-fn is_written(
-    alloc: Global,
-    keys: RandomState,
-    texts: &[&str],
-    wanted: &[&str],
-) -> Result<bool, Fail> {
-    let given = joined(alloc, texts)?;
-    let wanted = joined(alloc, wanted)?;
-    let Ok(written) = rewritten(alloc, keys, &given) else {
-        return Ok(false);
+fn is_written(alloc: Global, keys: RandomState, given: &str, wanted: &str) -> bool {
+    let Ok(written) = rewritten(alloc, keys, given.as_bytes()) else {
+        return false;
     };
     let Ok(again) = rewritten(alloc, keys, &written) else {
-        return Ok(false);
+        return false;
     };
-    Ok(written.as_slice() == wanted.as_slice() && again.as_slice() == wanted.as_slice())
+    written.as_slice() == wanted.as_bytes() && again.as_slice() == wanted.as_bytes()
 }
 
+/// Lines, and those that are written for their taps.
+static BUNDLES: [(&str, &str); 3] = [
+    // no taps have no bytes
+    ("", ""),
+    (
+        r#"st {"k":"tap","v":1,"of":"stream"}
+st {"k":"ev","off":"1-0","nsp":"/","rooms":["r"],"text":"2[\"hi\",\"1-0\"]"}
+a {"k":"tap","v":1,"of":"node"}
+a {"k":"start","off":null}
+a {"k":"open","pid":"P","sid":"s1","nsp":"/"}
+a {"k":"join","pid":"P","room":"r"}
+a {"k":"take","off":"1-0"}
+c1 {"k":"tap","v":1,"of":"client"}
+c1 {"k":"conn","c":1}
+c1 {"k":"in","t":"40{\"sid\":\"s1\",\"pid\":\"P\"}"}
+c1 {"k":"in","t":"42[\"hi\",\"1-0\"]"}
+"#,
+        r#"st {"k":"tap","of":"stream","v":1}
+st {"k":"ev","nsp":"/","off":"1-0","rooms":["r"],"text":"2[\"hi\",\"1-0\"]"}
+a {"k":"tap","of":"node","v":1}
+a {"k":"start","off":null}
+a {"k":"open","nsp":"/","pid":"P","sid":"s1"}
+a {"k":"join","pid":"P","room":"r"}
+a {"k":"take","off":"1-0"}
+c1 {"k":"tap","of":"client","v":1}
+c1 {"c":1,"k":"conn"}
+c1 {"k":"in","t":"40{\"sid\":\"s1\",\"pid\":\"P\"}"}
+c1 {"k":"in","t":"42[\"hi\",\"1-0\"]"}
+"#,
+    ),
+    // taps of either version, in the order of their first lines
+    (
+        r#"a {"k":"tap","v":2,"of":"node"}
+st {"k":"tap","v":1,"of":"stream"}
+st {"k":"other","off":"1-0"}
+a {"k":"start","off":null}
+c1 {"k":"tap","v":2,"of":"client"}
+st {"k":"other","off":"2-0"}
+a {"k":"takes","off":"2-0"}
+"#,
+        r#"a {"k":"tap","of":"node","v":2}
+a {"k":"start","off":null}
+a {"k":"takes","off":"2-0"}
+st {"k":"tap","of":"stream","v":1}
+st {"k":"other","off":"1-0"}
+st {"k":"other","off":"2-0"}
+c1 {"k":"tap","of":"client","v":2}
+"#,
+    ),
+];
+
 #[test]
-fn a_bundle_is_written(rt: HostRuntime) -> Result<(), Fail> {
+fn bundles_are_written(rt: HostRuntime) -> Result<(), Fail> {
     let keys = RandomState::new(&rt)?;
-    let texts = [
-        r#"st {"k":"tap","v":1,"of":"stream"}"#,
-        r#"st {"k":"ev","off":"1-0","nsp":"/","rooms":["r"],"text":"2[\"hi\",\"1-0\"]"}"#,
-        r#"a {"k":"tap","v":1,"of":"node"}"#,
-        r#"a {"k":"start","off":null}"#,
-        r#"a {"k":"open","pid":"P","sid":"s1","nsp":"/"}"#,
-        r#"a {"k":"join","pid":"P","room":"r"}"#,
-        r#"a {"k":"take","off":"1-0"}"#,
-        r#"c1 {"k":"tap","v":1,"of":"client"}"#,
-        r#"c1 {"k":"conn","c":1}"#,
-        r#"c1 {"k":"in","t":"40{\"sid\":\"s1\",\"pid\":\"P\"}"}"#,
-        r#"c1 {"k":"in","t":"42[\"hi\",\"1-0\"]"}"#,
-    ];
-    let wanted = [
-        r#"st {"k":"tap","of":"stream","v":1}"#,
-        r#"st {"k":"ev","nsp":"/","off":"1-0","rooms":["r"],"text":"2[\"hi\",\"1-0\"]"}"#,
-        r#"a {"k":"tap","of":"node","v":1}"#,
-        r#"a {"k":"start","off":null}"#,
-        r#"a {"k":"open","nsp":"/","pid":"P","sid":"s1"}"#,
-        r#"a {"k":"join","pid":"P","room":"r"}"#,
-        r#"a {"k":"take","off":"1-0"}"#,
-        r#"c1 {"k":"tap","of":"client","v":1}"#,
-        r#"c1 {"c":1,"k":"conn"}"#,
-        r#"c1 {"k":"in","t":"40{\"sid\":\"s1\",\"pid\":\"P\"}"}"#,
-        r#"c1 {"k":"in","t":"42[\"hi\",\"1-0\"]"}"#,
-    ];
-    assert!(rt; is_written(rt.alloc(), keys, &texts, &wanted)?);
-    Ok(())
-}
-
-#[test]
-fn taps_of_either_version_are_written_in_their_order(rt: HostRuntime) -> Result<(), Fail> {
-    let keys = RandomState::new(&rt)?;
-    let texts = [
-        r#"a {"k":"tap","v":2,"of":"node"}"#,
-        r#"st {"k":"tap","v":1,"of":"stream"}"#,
-        r#"st {"k":"other","off":"1-0"}"#,
-        r#"a {"k":"start","off":null}"#,
-        r#"c1 {"k":"tap","v":2,"of":"client"}"#,
-        r#"st {"k":"other","off":"2-0"}"#,
-        r#"a {"k":"takes","off":"2-0"}"#,
-    ];
-    let wanted = [
-        r#"a {"k":"tap","of":"node","v":2}"#,
-        r#"a {"k":"start","off":null}"#,
-        r#"a {"k":"takes","off":"2-0"}"#,
-        r#"st {"k":"tap","of":"stream","v":1}"#,
-        r#"st {"k":"other","off":"1-0"}"#,
-        r#"st {"k":"other","off":"2-0"}"#,
-        r#"c1 {"k":"tap","of":"client","v":2}"#,
-    ];
-    assert!(rt; is_written(rt.alloc(), keys, &texts, &wanted)?);
-    Ok(())
-}
-
-#[test]
-fn no_taps_have_no_bytes(rt: HostRuntime) -> Result<(), Fail> {
-    let written = write_bundle(rt.alloc(), &Taps::new(Vec::new(rt.alloc())))?;
-    assert!(rt; written.is_empty());
+    for (given, wanted) in &BUNDLES {
+        assert!(rt; is_written(rt.alloc(), keys, given, wanted), "{given}");
+    }
     Ok(())
 }
 

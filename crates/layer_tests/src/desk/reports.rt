@@ -2,7 +2,8 @@
 ghost use Rattle.aud_tap.specs.Names.{AreNamedOnce};
 
 use crate::desk::bundle;
-use crate::desk::bundle::taps_of;
+use crate::desk::bundle::{Part, taps_of};
+use crate::desk::sockets::BUNDLE;
 use crate::desk::two_sessions::{REPORT, REPORT_OF_WHOLE, TWO_SESSIONS};
 use aud_client::Recording;
 use aud_desk::{AuditFault, Gate, OpenGate, audit_with};
@@ -30,7 +31,7 @@ pub enum Expected {
 }
 
 /// What it has to give on the bundle of one session.
-pub static ONE_YES: Expected = Expected::Report(1, 0, bundle::REPORT);
+pub const ONE_YES: Expected = Expected::Report(1, 0, bundle::REPORT);
 
 /// Fails where so many workers behind this gate give anything else on these taps.
 pub fn audit<G: Gate + Sync, R: Threads + Wait + Clock + RandomSource + Abort + Sync>(
@@ -61,8 +62,9 @@ pub fn audit<G: Gate + Sync, R: Threads + Wait + Clock + RandomSource + Abort + 
     }
 }
 
-/// An audit of the first lines of the bundle of two sessions.
+/// An audit of the first lines of a bundle.
 struct Row {
+    parts: &'static [Part],
     lines: usize,
     workers: usize,
     whole: bool,
@@ -74,14 +76,15 @@ const RECEIVED: Expected = Expected::Report(2, 0, REPORT);
 const NEVER_CAME: Expected = Expected::Report(1, 1, REPORT_OF_WHOLE);
 
 #[rattlefmt::skip]
-static ROWS: [Row; 7] = [
-    Row { lines: 14, workers: 1, whole: false, expected: RECEIVED },
-    Row { lines: 14, workers: 2, whole: false, expected: RECEIVED },
-    Row { lines: 14, workers: 64, whole: false, expected: RECEIVED },
-    Row { lines: 13, workers: 1, whole: true, expected: NEVER_CAME },
-    Row { lines: 13, workers: 2, whole: true, expected: NEVER_CAME },
-    Row { lines: 14, workers: 0, whole: false, expected: Expected::Workers },
-    Row { lines: 14, workers: 65, whole: false, expected: Expected::Workers },
+static ROWS: [Row; 8] = [
+    Row { parts: &TWO_SESSIONS, lines: 14, workers: 1, whole: false, expected: RECEIVED },
+    Row { parts: &TWO_SESSIONS, lines: 14, workers: 2, whole: false, expected: RECEIVED },
+    Row { parts: &TWO_SESSIONS, lines: 14, workers: 64, whole: false, expected: RECEIVED },
+    Row { parts: &TWO_SESSIONS, lines: 13, workers: 1, whole: true, expected: NEVER_CAME },
+    Row { parts: &TWO_SESSIONS, lines: 13, workers: 2, whole: true, expected: NEVER_CAME },
+    Row { parts: &TWO_SESSIONS, lines: 14, workers: 0, whole: false, expected: Expected::Workers },
+    Row { parts: &TWO_SESSIONS, lines: 14, workers: 65, whole: false, expected: Expected::Workers },
+    Row { parts: &BUNDLE, lines: 12, workers: 1, whole: false, expected: ONE_YES },
 ];
 
 /// Fails where the audit behind this gate gives anything else.
@@ -92,7 +95,7 @@ fn audit_row<G: Gate + Sync, R: Threads + Wait + Clock + RandomSource + Abort + 
     gate: &G,
 ) -> Result<(), Fail> {
     let keys = RandomState::new(rt)?;
-    let taps = ManuallyDrop::new(taps_of(alloc, keys, &TWO_SESSIONS, row.lines)?);
+    let taps = ManuallyDrop::new(taps_of(alloc, keys, row.parts, row.lines)?);
     audit(
         &taps,
         rt,

@@ -1,4 +1,5 @@
-//! Work that is shared out among threads: the list is the same, however many they are.
+//! Work that is shared out among threads: the list is the same, however many they are, and the error of one item is
+//! that of all.
 use aud_base::try_map;
 use std::alloc::AllocError;
 use std::test::Fail;
@@ -15,20 +16,14 @@ fn any_number_of_threads_gives_one_list(rt: HostRuntime) -> Result<(), Fail> {
             let lengths = try_map(&rt, rt.alloc(), threads, words, |word| Ok(word.len()))?;
             assert_eq!(rt; lengths.as_slice(), &LENGTHS[..count]);
         }
-    }
-    Ok(())
-}
-
-#[test]
-fn out_of_memory_at_one_item_is_the_error(rt: HostRuntime) {
-    for threads in [1usize, 3, 64] {
-        let given = try_map(&rt, rt.alloc(), threads, &WORDS, |word| {
+        let refused = try_map(&rt, rt.alloc(), threads, &WORDS, |word| {
             if *word == "mn" {
                 Err(AllocError)
             } else {
                 Ok(word.len())
             }
         });
-        assert!(rt; given.is_err());
+        assert!(rt; refused.is_err());
     }
+    Ok(())
 }

@@ -1,12 +1,8 @@
 //! The tap of a socket, over memory and over loopback with both of its ends in this process.
-use crate::desk::bundle::{CLIENT, EVENT, NODE, Part, REPLY, STREAM, taps_of};
-use crate::desk::reports::{ONE_YES, audit};
-use aud_desk::OpenGate;
+use crate::desk::bundle::{CLIENT, EVENT, NODE, Part, REPLY, STREAM};
 use aud_wire::{WireFault, tap_next};
 use std::alloc::Global;
-use std::hash::RandomState;
 use std::io::{Read, Write};
-use std::mem::ManuallyDrop;
 use std::net::{Ipv4Addr, SocketAddr, TcpListener, TcpStream};
 use std::test::Fail;
 use tungstenite::{Duplex, MaskKeys, Message, NoMask, Role, WebSocket};
@@ -28,7 +24,7 @@ static TAPPED: [Option<&[u8]>; 6] = [
 ];
 
 /// The bundle, of which the client's tap told all that it gave of these texts and of the close.
-static BUNDLE: [Part; 4] = [
+pub const BUNDLE: [Part; 4] = [
     ("st", &STREAM),
     ("a", &NODE),
     ("c1", &CLIENT),
@@ -97,11 +93,4 @@ fn memory_is_tapped(rt: HostRuntime) -> Result<(), Fail> {
     let tapped = tap_next(alloc, &mut client(alloc, stream(alloc, b"")));
     assert!(rt; matches!(tapped, Err(WireFault::Socket)));
     Ok(())
-}
-
-#[test]
-fn the_bundle_with_the_records_is_answered_yes(rt: HostRuntime) -> Result<(), Fail> {
-    let alloc = rt.alloc();
-    let taps = ManuallyDrop::new(taps_of(alloc, RandomState::new(&rt)?, &BUNDLE, 12)?);
-    audit(&taps, &rt, alloc, 1, false, &ONE_YES, &OpenGate)
 }

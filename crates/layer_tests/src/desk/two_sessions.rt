@@ -2,7 +2,7 @@
 use crate::desk::bundle::Part;
 
 /// Its lines: 14.
-pub static TWO_SESSIONS: [Part; 4] = [
+pub const TWO_SESSIONS: [Part; 4] = [
     (
         "st",
         &[

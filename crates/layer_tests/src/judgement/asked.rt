@@ -47,15 +47,17 @@ use std::random::RandomSource;
 use std::test::Fail;
 use std::thread::Threads;
 
-/// Asserts that each case has the answers. Each of the parts comes after its name.
+/// Asserts that each case of the tables has the answers. Each of the parts comes after its name.
 pub fn assert_answers(
     rt: &(impl Abort + RandomSource + Threads + Sync),
     alloc: Global,
     parts: &[&str],
-    cases: &[&str],
+    tables: &[&[&str]],
 ) -> Result<(), Fail> {
-    for case in cases {
-        assert_case(rt, alloc, parts, case)?;
+    for cases in tables {
+        for case in *cases {
+            assert_case(rt, alloc, parts, case)?;
+        }
     }
     Ok(())
 }

@@ -1,7 +1,5 @@
 //! The texts of certificates: what is read from them, and written for them, over the logs of one session on one node,
 //! and on two nodes.
-use crate::judgement::asked::assert_answers;
-use crate::judgement::cluster::parts;
 use crate::judgement::told::Told;
 use aud_cert::{Certificate, read_cert, write_cert};
 use aud_check::{Accepted, Refusal, check};
@@ -9,9 +7,8 @@ use aud_client::Recording;
 use aud_maker::{MakeFault, make, sessions};
 use aud_verdict::{Verdict, decide};
 use std::alloc::Global;
-use std::test::Fail;
 
-static CASES: [&str; 2] = [
+pub static CASES: [&str; 2] = [
     // A session on node `a`, that joins `r` and is sent the one event.
     r#"@EVENT_1 NODE_A CLIENT_OF_P RECEIVED_1
 ? rewritten {"client":"c1","pid":"P","spans":[["r",1,1],["s1",1,1]],"turns":[["a",1,4,0,1]]}
@@ -51,11 +48,6 @@ K3 Range"#,
 ? rewritten {"client":"c1","pid":"P","spans":[["r",1,2],["s1",1,2]],"turns":[["a",1,5,0,1],["b",3,4,2,2]]}
 {"client":"c1","pid":"P","spans":[["r",1,2],["s1",1,2]],"turns":[["a",1,5,0,1],["b",3,4,2,2]]}"#,
 ];
-
-#[test]
-fn certificates_are_read_and_written(rt: HostRuntime) -> Result<(), Fail> {
-    assert_answers(&rt, rt.alloc(), parts(), &CASES)
-}
 
 /// The sessions, with a blank after each.
 pub fn tell_sessions(recording: &Recording<'_>, alloc: Global, out: &mut Told) {

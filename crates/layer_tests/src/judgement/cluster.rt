@@ -1,7 +1,8 @@
 //! Parts of bundles of a small cluster: a stream of four events for room `r`, the nodes `a` and `b`, and clients; and
 //! certificates.
 
-static PARTS: [&str; 34] = [
+/// Each after its name.
+pub static PARTS: [&str; 34] = [
     r#"EVENT_1
 st {"k":"tap","v":1,"of":"stream"}
 st {"k":"ev","off":"1-0","nsp":"/","rooms":["r"],"text":"2[\"hi\",\"1-0\"]"}"#,
@@ -145,8 +146,3 @@ a {"k":"take","off":"2-0"}"#,
     r#"PAST_END
 {"client":"c1","pid":"P","spans":[["r",1,2],["s1",1,2]],"turns":[["a",1,6,0,2]]}"#,
 ];
-
-/// Parts of cases, each after its name.
-pub fn parts() -> &'static [&'static str] {
-    &PARTS
-}

@@ -1,12 +1,10 @@
 //! Cursors, turns and the records of sessions in the nodes' logs.
-use crate::judgement::asked::assert_answers;
 use crate::judgement::told::Told;
 use aud_client::Recording;
 use aud_node::{Logs, NodeLog};
-use std::test::Fail;
 
 /// A node is of a session that one of its records names, whichever that is, and stands in the order of the taps.
-static CASES: [&str; 1] = [
+pub static CASES: [&str; 1] = [
     // The session `P` goes from `a` to `b` and back, twice. Node `c` takes an entry before an earlier one. The taps of
     // the nodes `v`, `w` and `x` are of version 2: `v` takes all entries, `w` up to where its cursor stands, and `x`
     // back.
@@ -91,11 +89,6 @@ no node
 ? turn b 2 P
 none"#,
 ];
-
-#[test]
-fn cursors_turns_and_sessions(rt: HostRuntime) -> Result<(), Fail> {
-    assert_answers(&rt, rt.alloc(), &[], &CASES)
-}
 
 /// The place of the tap of this name, and those of the nodes and of the clients that name the session of this pid.
 pub fn tell_name(recording: &Recording<'_>, name: &str, out: &mut Told) {

@@ -1,12 +1,10 @@
 //! Runs that are shown, and records that block.
-use crate::judgement::asked::assert_answers;
 use crate::judgement::told::Told;
 use aud_merge::{order, order_text};
 use aud_node::Logs;
 use std::alloc::{AllocError, Global};
-use std::test::Fail;
 
-static CASES: [&str; 5] = [
+pub static CASES: [&str; 5] = [
     // One entry, and a node on which the session `P` takes it.
     r#"
 st {"k":"tap","v":1,"of":"stream"}
@@ -107,11 +105,6 @@ a 2
 steps=9
 "#,
 ];
-
-#[test]
-fn runs_and_what_blocks(rt: HostRuntime) -> Result<(), Fail> {
-    assert_answers(&rt, rt.alloc(), &[], &CASES)
-}
 
 /// The run that is shown, or the records that block.
 pub fn tell_order(logs: &Logs<'_>, alloc: Global, out: &mut Told) {

@@ -1,6 +1,5 @@
 //! The packets of clients' taps, what the server's answers to a CONNECT tell, and which taps name a session. Records
 //! count from 0, the header not counted.
-use crate::judgement::asked::assert_answers;
 use crate::judgement::clients::tell_reply;
 use crate::judgement::told::Told;
 use aud_client::{ClientTap, Placed, TapPacket, reply_of};
@@ -8,9 +7,8 @@ use aud_node::Logs;
 use aud_sio::Whole;
 use aud_tap::ClientRec;
 use std::alloc::Global;
-use std::test::Fail;
 
-static CASES: [&str; 2] = [
+pub static CASES: [&str; 2] = [
     // A packet stands where the last of its attachments does; a ping may stand between. A refused body gives no packet;
     // after a refused packet the next one is read; the first bad record counts. Attachments still awaited when a
     // connection or the tap ends: the packet didn't arrive, and no record is bad. Of what the client sends, a CONNECT
@@ -131,11 +129,6 @@ place None, nodes [], clients [2, 3]
 ? name R
 place None, nodes [], clients []"#,
 ];
-
-#[test]
-fn packets_replies_and_the_sessions_they_name(rt: HostRuntime) -> Result<(), Fail> {
-    assert_answers(&rt, rt.alloc(), &[], &CASES)
-}
 
 /// How many records the tap of this name has, its first bad record, and its packets, connection by connection.
 pub fn tell_packets(logs: &Logs<'_>, alloc: Global, name: &str, out: &mut Told) {

@@ -1,14 +1,13 @@
 //! The rooms of a session: whom entries are addressed to, spans, and what is due by these.
-use crate::judgement::asked::{assert_answers, cut, number};
+use crate::judgement::asked::{cut, number};
 use crate::judgement::node_logs::log_named;
 use crate::judgement::told::Told;
 use aud_node::{Logs, Recs, Stream};
 use aud_rooms::{RoomSet, Span, SpanBuilder, addressed, due_of};
 use std::alloc::{AllocError, Global};
 use std::borrow::CowStr;
-use std::test::Fail;
 
-static CASES: [&str; 7] = [
+pub static CASES: [&str; 7] = [
     r#"
 ? walked 1 +r 3 -r +q 4
 q 4..4 r 2..3 s1 1..4 "#,
@@ -83,11 +82,6 @@ st {"k":"ev","off":"4-0","nsp":"/","text":"2[\"hi\",\"4-0\"]"}
 ? due /n 0 4
 [2]"#,
 ];
-
-#[test]
-fn rooms_spans_and_what_is_due(rt: HostRuntime) -> Result<(), Fail> {
-    assert_answers(&rt, rt.alloc(), &[], &CASES)
-}
 
 /// The spans of a session whose node's cursor comes to these positions, and that joins and leaves these rooms.
 pub fn tell_walked(alloc: Global, words: &str, out: &mut Told) {

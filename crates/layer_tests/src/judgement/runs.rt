@@ -1,13 +1,11 @@
 //! Runs of a cluster with one entry, and a node on which the session `P` is opened and takes it; and runs of nodes that
 //! take many entries by one record.
-use crate::judgement::asked::assert_answers;
 use crate::judgement::told::Told;
 use aud_merge::{State, Step, allowed, apply, is_run};
 use aud_node::Logs;
 use std::alloc::{AllocError, Global};
-use std::test::Fail;
 
-static CASES: [&str; 3] = [
+pub static CASES: [&str; 3] = [
     r#"
 st {"k":"tap","v":1,"of":"stream"}
 st {"k":"ev","off":"1-0","nsp":"/","rooms":["r"],"text":"2[\"hi\",\"1-0\"]"}
@@ -78,11 +76,6 @@ false, no session
 ? after 0.0 0.1 2.0 2.1
 false, no session"#,
 ];
-
-#[test]
-fn runs_of_the_cluster(rt: HostRuntime) -> Result<(), Fail> {
-    assert_answers(&rt, rt.alloc(), &[], &CASES)
-}
 
 /// The steps, each written by the numbers of its log and its record.
 fn steps_of(alloc: Global, words: &str) -> Result<Vec<Step>, AllocError> {

@@ -1,10 +1,7 @@
 //! Which sessions there are, the certificate of a session or its fault, and the answers on certificates made by hand:
 //! the values are those that the rules of the cluster, of turns, spans and sessions give.
-use crate::judgement::asked::assert_answers;
-use crate::judgement::cluster::parts;
-use std::test::Fail;
 
-static CASES: [&str; 7] = [
+pub static CASES: [&str; 7] = [
     r#"@EVENT_1 NODE_A CLIENT_OF_P
 ? made P
 {"client":"c1","pid":"P","spans":[["r",1,1],["s1",1,1]],"turns":[["a",1,4,0,1]]}"#,
@@ -36,13 +33,8 @@ CLIENT"#,
 CLIENT"#,
 ];
 
-#[test]
-fn sessions_and_their_certificates(rt: HostRuntime) -> Result<(), Fail> {
-    assert_answers(&rt, rt.alloc(), parts(), &CASES)
-}
-
 /// What the client asks for, the event and the reply that it gets come last.
-static CHECKED: [&str; 8] = [
+pub static CHECKED: [&str; 8] = [
     // The first turn alone shows the first event alone.
     r#"@RECOVERY ASKED REPLAYED RECOVERED
 ? checked @TWO_TURNS
@@ -80,8 +72,3 @@ K11 Received ORPHAN"#,
 ? checked @TWO_TURNS
 K11 Received WINDOW 2"#,
 ];
-
-#[test]
-fn certificates_are_checked(rt: HostRuntime) -> Result<(), Fail> {
-    assert_answers(&rt, rt.alloc(), parts(), &CHECKED)
-}

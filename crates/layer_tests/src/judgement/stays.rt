@@ -1,9 +1,7 @@
 //! The stays of a client's tap, and their frames: the values are those that the rules of stays and frames give.
-use crate::judgement::asked::assert_answers;
-use std::test::Fail;
 
 /// Parts of these cases, each after its name.
-static PARTS: [&str; 17] = [
+pub static PARTS: [&str; 17] = [
     // Three events of `/`, one of `/n`, an event with an attachment, an entry of another kind, and the tap of a client.
     r#"STREAM
 st {"k":"tap","v":1,"of":"stream"}
@@ -48,7 +46,7 @@ c1 {"k":"in","t":"431[]"}"#,
 c1 {"k":"in","t":"42"}"#,
 ];
 
-static CASES: [&str; 30] = [
+pub static CASES: [&str; 30] = [
     r#"@STREAM FIRST REPLY EVENT_1 EVENT_2
 ? stays c1
 1 / reply P s1 1 2
@@ -239,8 +237,3 @@ no client
 ? naming c2 P
 no client"#,
 ];
-
-#[test]
-fn stays_and_frames(rt: HostRuntime) -> Result<(), Fail> {
-    assert_answers(&rt, rt.alloc(), &PARTS, &CASES)
-}

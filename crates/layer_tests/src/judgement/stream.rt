@@ -1,12 +1,11 @@
 //! Where entries stand in the stream, which of them are sent again and known by their texts, and whom these are
 //! addressed to or except.
-use crate::judgement::asked::{assert_answers, cut};
+use crate::judgement::asked::cut;
 use crate::judgement::told::Told;
 use aud_node::{KnownEvent, Stream};
-use std::test::Fail;
 
 /// A room that is named twice counts once; an event that isn't sent again is addressed to nobody.
-static CASES: [&str; 3] = [
+pub static CASES: [&str; 3] = [
     // Of the last five but one none is sent again: it has an acknowledgement id; its packet is of another namespace; it
     // has no offset; it has an attachment too few.
     r#"
@@ -83,11 +82,6 @@ nowhere
 ? known 2["hi","1-0"]
 Some(1), Some(1)"#,
 ];
-
-#[test]
-fn entries_of_the_stream(rt: HostRuntime) -> Result<(), Fail> {
-    assert_answers(&rt, rt.alloc(), &[], &CASES)
-}
 
 /// The offset of the entry, its position, of how many, and whether it is sent again.
 pub fn tell_entry(stream: &Stream<'_>, off: &str, out: &mut Told) {

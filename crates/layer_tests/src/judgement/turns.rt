@@ -4,16 +4,15 @@ ghost use Rattle.std.specs.Prelude.{IfSome};
 ghost use Rattle.std.specs.List.{All};
 ghost use Rattle.aud_rooms.specs.TurnPlaces.{IsInOrder};
 
-use crate::judgement::asked::{assert_answers, cut};
+use crate::judgement::asked::cut;
 use crate::judgement::rooms::tell_spans_of;
 use crate::judgement::told::Told;
 use aud_node::{Logs, Recs};
 use aud_rooms::{TurnPlace, spans_of_turns};
 use aud_tap::NodeRec;
 use std::alloc::Global;
-use std::test::Fail;
 
-static CASES: [&str; 2] = [
+pub static CASES: [&str; 2] = [
     // `P` holds `r` at 1, leaves it, holds `q` from 2 over its break to 4, and `r` again at 4 and at 6. The records of
     // each node are numbered from 0 after its header.
     // Position 3 was sent before the session came to `b`: it is judged by the rooms that the session came with.
@@ -82,11 +81,6 @@ a {"k":"leave","pid":"P","room":"q"}
 ? spans
 q 3..5 r 1..2 s1 1..5 "#,
 ];
-
-#[test]
-fn turns_and_their_spans(rt: HostRuntime) -> Result<(), Fail> {
-    assert_answers(&rt, rt.alloc(), &[], &CASES)
-}
 
 /// A turn of `P` on the node with this name, which took the stream in order.
 fn turn(logs: &Logs<'_>, name: &str, number: u16) -> Option<TurnPlace>

@@ -1,10 +1,8 @@
 //! Verdicts on the sessions of small bundles: yes with its numbers, and of several faults the first. What never came is
 //! a fault of the whole.
-use crate::judgement::asked::assert_answers;
-use std::test::Fail;
 
 /// Parts of these cases, each after its name.
-static PARTS: [&str; 13] = [
+pub static PARTS: [&str; 13] = [
     r#"ONE_EVENT
 st {"k":"tap","v":1,"of":"stream"}
 st {"k":"ev","off":"1-0","nsp":"/","rooms":["r"],"text":"2[\"hi\",\"1-0\"]"}
@@ -83,7 +81,7 @@ c1 {"k":"in","t":"42[\"hi\",\"3-0\"]"}"#,
 c1 {"k":"in","t":"42[\"hi\",\"2-0\"]"}"#,
 ];
 
-static CASES: [&str; 19] = [
+pub static CASES: [&str; 19] = [
     r#"@ONE_EVENT HI
 ? verdict P
 yes got=1 tail=0 turns=1
@@ -180,8 +178,3 @@ no WINDOW 2
 ? whole P
 no WINDOW 2"#,
 ];
-
-#[test]
-fn verdicts(rt: HostRuntime) -> Result<(), Fail> {
-    assert_answers(&rt, rt.alloc(), &PARTS, &CASES)
-}
