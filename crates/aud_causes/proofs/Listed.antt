@@ -5,3 +5,4 @@ pub mod OfClient
 pub mod OfContent
 pub mod OfDifference
 pub mod OfFault
+pub mod OfRefusal

@@ -65,6 +65,22 @@ is_untold told id = not (is_told told id)
 abbrev pub refuted : Verdict → List CauseFound → List Text
 refuted verdict told = filter (is_untold told) (candidates_for verdict)
 
+-- ---- of a refused recovery
+
+-- the names of the causes that it can have, in the order in which those that hold are told
+abbrev pub refusal_candidates : List Text
+refusal_candidates =
+    codes "no-offset" ∷ codes "unknown-offset" ∷ codes "session-over" ∷ codes "node-ended-in-turn" ∷ codes "never-broken"
+    ∷ codes "asked-too-early" ∷ []
+
+-- it can have a cause of this name
+abbrev pub is_refusal_candidate : Text → Bool
+is_refusal_candidate id = list_any (bytes_eq id) refusal_candidates
+
+-- those of them that were refuted
+abbrev pub refuted_of_refusal : List CauseFound → List Text
+refuted_of_refusal told = filter (is_untold told) refusal_candidates
+
 -- the text that is borrowed
 abbrev pub text_of : Bor Text → Text
 text_of text = text.now

@@ -1,6 +1,6 @@
 //! A node that took a session back while it was behind the break.
 ghost use Rattle.std.specs.Prelude.{◌≡◌};
-ghost use Rattle.aud_causes.specs.Behind.{behind_at, first_behind, first_of, last_of, node_behind};
+ghost use Rattle.aud_causes.specs.Behind.{behind, first_of, last_of, node_behind};
 
 use crate::cause::Cause;
 use crate::facts::Facts;
@@ -8,39 +8,26 @@ use aud_cert::{Turn, turn_place};
 use aud_node::Logs;
 use aud_session_facts::RecordPlace;
 
-/// Where the two frames stand in two stays, and a turn begins before the entry that the turn before it had reached. It
-/// costs the turns.
+/// Where the two frames stand in two stays, these match the turns, and the turn of the later one begins before the entry,
+/// which the turn before it had reached.
 pub(crate) fn node_behind(logs: &Logs<'_>, turns: &[Turn<'_>], facts: Facts) -> Option<Cause>
     ensures { result ≡ node_behind logs.now turns.now facts }
 {
-    if facts.later <= facts.earlier {
+    if !facts.matched || facts.later <= facts.earlier {
         return None;
     }
-    let number = first_behind(turns, facts.parted.position)?;
-    behind_at(logs, turns, number)
+    let before = turns.get(facts.later.saturating_sub(1))?;
+    let turn = turns.get(facts.later)?;
+    behind(logs, before, turn, facts.parted.position)
 }
 
-/// The number of the first turn that begins with the cursor before the position, where the turn before it ended at it
-/// or past it.
-fn first_behind(turns: &[Turn<'_>], position: u64) -> Option<usize>
-    ensures { result ≡ first_behind position 0 0 turns.now }
+/// The break of one turn, and the `back` of the next, where that begins before this position, and the first had reached it.
+fn behind(logs: &Logs<'_>, before: &Turn<'_>, turn: &Turn<'_>, position: u64) -> Option<Cause>
+    ensures { result ≡ behind logs.now position before.now turn.now }
 {
-    let mut high = 0;
-    for (number, turn) in turns.iter().enumerate() {
-        if turn.low < position && position <= high {
-            return Some(number);
-        }
-        high = turn.high;
+    if position <= turn.low || before.high < position {
+        return None;
     }
-    None
-}
-
-/// The break of the turn before the one with this number, and the `back` of that.
-fn behind_at(logs: &Logs<'_>, turns: &[Turn<'_>], number: usize) -> Option<Cause>
-    ensures { result ≡ behind_at logs.now turns.now number }
-{
-    let before = turns.get(number.saturating_sub(1))?;
-    let turn = turns.get(number)?;
     Some(Cause::NodeBehindBreak {
         broke: last_of(logs, before),
         back: first_of(logs, turn),

@@ -1,7 +1,7 @@
 //! Which causes a fault can have, and which of them were refuted.
 ghost use Rattle.std.specs.Prelude.{◌≡◌, ◌++◌, ◌∷◌, [], IfOk, OnOk, map};
 ghost use Rattle.std.specs.List.{filter};
-ghost use Rattle.aud_causes.specs.Candidates.{candidates, candidates_for, is_told, is_untold, refuted, text_of};
+ghost use Rattle.aud_causes.specs.Candidates.{candidates, candidates_for, is_told, is_untold, refuted, refuted_of_refusal, text_of};
 
 use crate::found::CauseFound;
 use aud_cert::Fault;
@@ -104,6 +104,15 @@ static WINDOW: [&str; 4] = [
     "offset-of-another-session",
 ];
 
+static REFUSAL: [&str; 6] = [
+    "no-offset",
+    "unknown-offset",
+    "session-over",
+    "node-ended-in-turn",
+    "never-broken",
+    "asked-too-early",
+];
+
 /// The names of the causes that such a fault can have, in the order in which those that hold are told. A tail has none.
 fn candidates(fault: &Fault) -> &'static [&'static str]
     ensures { map text_of result.now ≡ candidates fault.now }
@@ -172,9 +181,32 @@ pub fn refuted(
 ) -> Result<Vec<&'static str>, AllocError>
     ensures { IfOk result (λ ids. map text_of ids.items ≡ refuted verdict.now told.now) }
 {
-    let mut ids = Vec::new(alloc);
-    for id in candidates_for(verdict) {
-        push_untold(&mut ids, told, *id)?;
+    untold_of(alloc, candidates_for(verdict), told)
+}
+
+/// The names of the causes that a refused recovery can have and that were refuted, in their order: of those that are
+/// told of it none has such a name.
+pub fn refuted_of_refusal(
+    alloc: Global,
+    told: &[CauseFound],
+) -> Result<Vec<&'static str>, AllocError>
+    ensures { IfOk result (λ ids. map text_of ids.items ≡ refuted_of_refusal told.now) }
+{
+    untold_of(alloc, &REFUSAL, told)
+}
+
+/// Those of these names that none of the causes has.
+fn untold_of(
+    alloc: Global,
+    ids: &'static [&'static str],
+    told: &[CauseFound],
+) -> Result<Vec<&'static str>, AllocError>
+    ensures { IfOk result (λ untold. map text_of untold.items
+        ≡ filter (is_untold told.now) (map text_of ids.now)) }
+{
+    let mut untold = Vec::new(alloc);
+    for id in ids {
+        push_untold(&mut untold, told, *id)?;
     }
-    Ok(ids)
+    Ok(untold)
 }

@@ -1,5 +1,6 @@
 //! What is told of a fault, and the list of causes that such a fault can have.
-ghost use Rattle.std.specs.Prelude.{◌≡◌, ℕ, Bool, true, List, Option, IfSome};
+ghost use Rattle.std.specs.Prelude.{◌≡◌, ◌∷◌, [], ℕ, Bool, true, List, Option, IfSome, map};
+ghost use Rattle.std.specs.List.{list_all};
 ghost use Rattle.aud_node.specs.Cluster.{Cluster};
 ghost use Rattle.aud_node.specs.Stream.{Text};
 ghost use Rattle.aud_cert.specs.declared.fault.Fault.{Fault};
@@ -10,8 +11,11 @@ ghost use Rattle.aud_session_facts.specs.declared.account.Account.{Account};
 ghost use Rattle.aud_session_facts.specs.Account.{IsAccountOf};
 ghost use Rattle.aud_causes.specs.declared.causes.Noted.{Noted};
 ghost use Rattle.aud_causes.specs.declared.found.CauseFound.{CauseFound};
-ghost use Rattle.aud_causes.specs.Candidates.{are_candidates};
+ghost use Rattle.aud_client.specs.StaySeen.{StaySeen};
+ghost use Rattle.aud_causes.specs.Candidates.{are_candidates, is_refusal_candidate};
 ghost use Rattle.aud_causes.specs.Causes.{AreToldCauses};
+ghost use Rattle.aud_causes.specs.Found.{cause_seen, shown_causes};
+ghost use Rattle.aud_causes.specs.Refusals.{refusal_causes};
 
 use aud_session_facts::verdict_is_found;
 
@@ -30,3 +34,13 @@ pub fn told_causes_are_candidates()
 {
     verdict_is_found();
 }
+
+/// The causes that [`causes_of_refusal`](crate::causes_of_refusal) tells have names of the list of causes that a refused
+/// recovery can have. So these names and those that [`refuted_of_refusal`](crate::refuted_of_refusal) gives are together
+/// that list.
+pub fn causes_of_refusals_are_candidates()
+    ensures { (c : Cluster) (lines : List TapLines) (client : Option ℕ) (stays : List StaySeen)
+        (number : ℕ) (causes : List CauseFound) → map cause_seen causes
+        ≡ shown_causes c lines client (number ∷ []) true (refusal_causes c stays number)
+        → list_all (λ cause. is_refusal_candidate cause.id.now) causes ≡ true }
+{}

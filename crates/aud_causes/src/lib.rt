@@ -63,8 +63,8 @@ mod unrecorded;
 mod why;
 mod window;
 
-pub use candidates::refuted;
+pub use candidates::{refuted, refuted_of_refusal};
 pub use causes::{Noted, causes_of};
 pub use found::CauseFound;
-pub use law::told_causes_are_candidates;
+pub use law::{causes_of_refusals_are_candidates, told_causes_are_candidates};
 pub use refusal::causes_of_refusal;

@@ -2,11 +2,11 @@
 ghost use Rattle.std.specs.Prelude.{◌≡◌, IfOk, flat_map, option_to_list};
 ghost use Rattle.std.specs.Option.{option_and_then};
 ghost use Rattle.aud_client.specs.Received.{TranscriptSeen, transcript_at};
-ghost use Rattle.aud_causes.specs.NoPacket.{advice, no_packet_figures, no_packet_in, no_packet_words, refusal_advice};
+ghost use Rattle.aud_causes.specs.NoPacket.{advice, json_advice, no_packet_figures, no_packet_in, no_packet_words, refusal_advice};
 
 use crate::why::Figure;
 use aud_client::Recording;
-use aud_refusals::{NoPacket, Refusal, no_packet_at};
+use aud_refusals::{NoJson, NoPacket, PayloadFault, Refusal, no_packet_at};
 use aud_sio::SioFault;
 use std::alloc::{AllocError, Global};
 
@@ -76,6 +76,19 @@ pub(crate) fn advice(why: Option<NoPacket>) -> &'static str
     }
 }
 
+/// What to do about a payload that is no JSON.
+fn json_advice(why: NoJson) -> &'static str
+    ensures { result.now ≡ json_advice why }
+{
+    match why {
+        NoJson::Deep(_) => "send lists and objects that nest at most 127 deep.",
+        NoJson::HalfPair(_) => "send texts of whole characters: cut no surrogate pair in two.",
+        NoJson::Number(_) => "send numbers that a 64-bit float holds, and others as texts.",
+        _ =>
+            "send JSON (RFC 8259), which has no NaN and no Infinity; record a text as it came, to its end.",
+    }
+}
+
 /// What to do about this refusal, of a packet with a number where it is of a polling body.
 fn refusal_advice(refusal: Refusal, packet: Option<usize>) -> &'static str
     ensures { result.now ≡ refusal_advice refusal packet }
@@ -89,8 +102,8 @@ fn refusal_advice(refusal: Refusal, packet: Option<usize>) -> &'static str
             "look at the records before this one: the packet of this attachment is not among them.",
         (Refusal::Socket(SioFault::Attachments), _) => "send at most 64 attachments with an event.",
         (Refusal::Socket(SioFault::AckId), _) => "use acknowledgement ids of at most 18 digits.",
-        (Refusal::Socket(SioFault::Payload), _) =>
-            "send JSON: no NaN, no half of a surrogate pair, no number past a double, 127 levels at most.",
+        (Refusal::Payload(PayloadFault::NoJson(why)), _) => json_advice(why),
+        (Refusal::Payload(_), _) => "send an event's name and its arguments as a list.",
         _ => "record what came as it came: a text as a text, and bytes as bytes.",
     }
 }

@@ -94,7 +94,7 @@ fn push_figure(logs: &Logs<'_>, text: &mut String, figure: Figure) -> Result<(),
         Figure::Name(place) => text.push_str(name_at(logs, place)),
         Figure::Number(number) => write!(text, "{number}"),
         Figure::Nth(number) => write!(text, "{}", number as u128 + 1),
-        Figure::Refused(refusal) => text.push_str(refusal.words()),
+        Figure::Refused(refusal) => refusal.push_words(text),
     }
 }
 

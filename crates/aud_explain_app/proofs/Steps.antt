@@ -25,7 +25,7 @@ use Rattle.aud_explain_app.specs.declared.sessions.ToldText.{ToldText}
 use Rattle.aud_explain_app.specs.declared.summary.causes.CausesTold.{CausesTold}
 use Rattle.aud_explain_app.specs.Written.{IsWritten}
 use Rattle.aud_explain_app.specs.declared.explained.Explained.{Explained}
-use Rattle.aud_explain_app.specs.Asked.{refused_of}
+use Rattle.aud_explain_app.specs.Asked.{asked_for}
 use Rattle.aud_node.specs.Stream.{Text}
 use Rattle.aud_session_facts.specs.declared.asked.Recovery.{Recovery}
 
@@ -185,13 +185,13 @@ texts_put {X} c lines form files f xs told a b before after made put causes = re
     each (x ∷ xs) [] h = absurd h
     each (x ∷ xs) (t ∷ ts) h = (h.0, each xs ts h.1)
 
--- what is told of a session by its pid and its refused recoveries
-pub text_by : (c : Cluster) (lines : List TapLines) (form : Form) (files : List InputFile) (t : Telling) (pid : Text) (refused : List Recovery) (explained : Explained) (told : ToldText)
-    → pid ≡ t.session.pid → refused ≡ refused_of c t.session.pid → IsExplained c lines pid t.session.verdict refused explained
+-- what is told of a session by its pid and the recoveries that were asked for it
+pub text_by : (c : Cluster) (lines : List TapLines) (form : Form) (files : List InputFile) (t : Telling) (pid : Text) (own : List Recovery) (explained : Explained) (told : ToldText)
+    → pid ≡ t.session.pid → own ≡ asked_for c t.session.pid → IsExplained c lines pid t.session.verdict own explained
     → IsWritten form files pid t.session.verdict t.alike explained (string_bytes told.text) → AreCausesTold t.session.verdict (length t.alike) explained told.causes → IsTextOf c lines form files t told
-text_by c lines form files t pid refused explained told is are are_explained written causes = record {
+text_by c lines form files t pid own explained told is are are_explained written causes = record {
   explained = explained;
-  is_explained = subst (λ p. IsExplained c lines p t.session.verdict (refused_of c t.session.pid) explained) is (subst (λ r. IsExplained c lines pid t.session.verdict r explained) are are_explained);
+  is_explained = subst (λ p. IsExplained c lines p t.session.verdict (asked_for c t.session.pid) explained) is (subst (λ r. IsExplained c lines pid t.session.verdict r explained) are are_explained);
   is_written = subst (λ p. IsWritten form files p t.session.verdict t.alike explained (string_bytes told.text)) is written;
   are_causes = causes;
 }

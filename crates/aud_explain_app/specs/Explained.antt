@@ -1,6 +1,6 @@
 -- All that is told of a session.
 use Rattle.std.specs.Prelude.{◌≡◌, All, List, MatchOption, is_some, map, Option}
-use Rattle.std.specs.List.{AllZip}
+use Rattle.std.specs.List.{AllZip, filter}
 use Rattle.std.specs.Option.{option_map}
 use Rattle.aud_node.specs.Cluster.{Cluster}
 use Rattle.aud_node.specs.Stream.{Text}
@@ -19,6 +19,7 @@ use Rattle.aud_findings.specs.Received.{IsReceivedShown}
 use Rattle.aud_input.specs.TapLines.{TapLines}
 use Rattle.aud_maker.specs.Faults.{HasMakeFault}
 use Rattle.aud_session_facts.specs.declared.asked.Recovery.{Recovery}
+use Rattle.aud_session_facts.specs.Recoveries.{is_refused}
 use Rattle.aud_verdict.specs.declared.verdict.Verdict.{Verdict}
 use Rattle.aud_rows.specs.Seen.{row_seen}
 use Rattle.aud_session_facts.specs.RowLists.{AreTrueRows}
@@ -34,8 +35,8 @@ abbrev pub IsAccountFound : Cluster → Text → Option Account → Type 0
 IsAccountFound c pid account = MatchOption account ((fault : Fault) × HasMakeFault c pid fault) (IsAccountOf c pid)
 
 -- what is told of the session with this pid is so: over these logs, where these are the lines of the input, this is the
--- verdict on the session, and these recoveries of it were refused
-pub record IsExplained (c : Cluster) (lines : List TapLines) (pid : Text) (verdict : Verdict) (refused : List Recovery) (told : Explained) : Type 0 where
+-- verdict on the session, and for it these recoveries were asked
+pub record IsExplained (c : Cluster) (lines : List TapLines) (pid : Text) (verdict : Verdict) (asked : List Recovery) (told : Explained) : Type 0 where
   pub account : Option Account
   pub is_account : IsAccountFound c pid account
   pub noted : Noted
@@ -47,8 +48,8 @@ pub record IsExplained (c : Cluster) (lines : List TapLines) (pid : Text) (verdi
   pub received : IsReceivedShown c pid (is_some account) verdict told.outcome.account
   pub also : IsAlsoShown c lines pid (is_some account) verdict (others_seen told.outcome.also)
   pub turns : map turn_seen told.turns.items ≡ turns_told c lines pid account
-  pub recoveries : AllZip (IsRefusedTold c lines) refused told.refused.items
-  pub events : AreEvents c lines (only_of (naming_places c.taps pid)) pid refused told.events.items
+  pub recoveries : AllZip (IsRefusedTold c lines) (filter is_refused asked) told.refused.items
+  pub events : AreEvents c lines (only_of (naming_places c.taps pid)) pid asked told.events.items
   -- a cause is certain exactly where it is the only one, and the fault can have others
   pub causes : AreCauses c lines (only_of (naming_places c.taps pid)) pid noted account verdict told.causes.items
   pub sure : All (λ (cause : CauseFound). is_certain cause.state ≡ is_sure verdict told.causes.items) told.causes.items

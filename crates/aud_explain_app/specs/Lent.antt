@@ -1,7 +1,10 @@
 -- What is told, as an explanation lends it.
-use Rattle.std.specs.Prelude.{ℕ, List, flat_map, map, option_to_list, Option}
+use Rattle.std.specs.Prelude.{ℕ, Bool, not, List, flat_map, map, option_to_list, Option}
 use Rattle.std.specs.Option.{option_copied, option_map}
+use Rattle.aud_node.specs.Lists.{is_empty}
+use Rattle.aud_node.specs.Stream.{Text}
 use Rattle.aud_causes.specs.declared.found.CauseFound.{CauseFound}
+use Rattle.aud_causes.specs.Candidates.{text_of}
 use Rattle.aud_causes.specs.Found.{CauseSeen, cause_seen}
 use Rattle.aud_explanation.specs.declared.also.Also.{Also}
 use Rattle.aud_explanation.specs.declared.cause.Cause.{Cause}
@@ -25,22 +28,36 @@ cause_told cause = (cause.of, record { id = cause.id.now; state = cause.state; l
 abbrev pub cause_of : CauseOf → CauseFound → CauseOf × CauseSeen
 cause_of of cause = (of, cause_seen cause)
 
-abbrev pub recovery_told : RefusedRecovery → RefusedSeen
+-- a refused recovery: what shows it, whether a cause of it is told, and the names of those that were refuted
+pub record RecoveryTold : Type 0 where
+  pub shown : RefusedSeen
+  pub has_cause : Bool
+  pub refuted : List Text
+
+abbrev pub recovery_told : RefusedRecovery → RecoveryTold
 recovery_told r =
     record {
-      ask = row_seen r.ask;
-      reply = option_map row_seen r.reply;
-      instead = option_map (λ pid. pid.now) r.instead;
-      missed = option_map (λ missed. map missed_seen missed) (option_copied r.missed);
+      shown = record {
+        ask = row_seen r.ask;
+        reply = option_map row_seen r.reply;
+        instead = option_map (λ pid. pid.now) r.instead;
+        missed = option_map (λ missed. map missed_seen missed) (option_copied r.missed);
+      };
+      has_cause = r.has_cause;
+      refuted = map text_of r.refuted.now;
     }
 
+-- that of which this is told, where this shows it
+abbrev pub recovery_of : RefusedTold → RefusedShown → RecoveryTold
+recovery_of told shown = record { shown = refused_seen shown; has_cause = not (is_empty told.causes.items); refuted = map text_of told.refuted.items }
+
 -- the recovery, if it is shown
-abbrev pub shown_of : Option RefusedShown → List RefusedSeen
-shown_of shown = option_to_list (option_map refused_seen shown)
+abbrev pub shown_of : RefusedTold → List RecoveryTold
+shown_of told = option_to_list (option_map (recovery_of told) told.shown)
 
 -- the recoveries that are shown
-abbrev pub recoveries_shown : List RefusedTold → List RefusedSeen
-recoveries_shown refused = flat_map (λ (told : RefusedTold). shown_of told.shown) refused
+abbrev pub recoveries_shown : List RefusedTold → List RecoveryTold
+recoveries_shown refused = flat_map shown_of refused
 
 -- the line of the ask, if the recovery is shown
 abbrev pub ask_line : Option RefusedShown → Option ℕ

@@ -12,13 +12,13 @@ use Rattle.aud_input.specs.declared.input_file.InputFile.{InputFile}
 use Rattle.aud_input.specs.TapLines.{TapLines}
 use Rattle.aud_explain_app.specs.declared.summary.causes.CausesTold.{CausesTold}
 use Rattle.aud_explain_app.specs.Alike.{Telling}
-use Rattle.aud_explain_app.specs.Asked.{refused_of}
+use Rattle.aud_explain_app.specs.Asked.{asked_for}
 
 -- the text is that of an explanation of the session, with its verdict and its refused recoveries, which names the others;
 -- and the causes are those that the same explanation tells
 pub record IsTextOf (c : Cluster) (lines : List TapLines) (form : Form) (files : List InputFile) (t : Telling) (told : ToldText) : Type 0 where
   pub explained : Explained
-  pub is_explained : IsExplained c lines t.session.pid t.session.verdict (refused_of c t.session.pid) explained
+  pub is_explained : IsExplained c lines t.session.pid t.session.verdict (asked_for c t.session.pid) explained
   pub is_written : IsWritten form files t.session.pid t.session.verdict t.alike explained (string_bytes told.text)
   pub are_causes : AreCausesTold t.session.verdict (length t.alike) explained told.causes
 

@@ -1,11 +1,12 @@
-//! The recoveries that clients asked for, and by session those that were refused.
-ghost use Rattle.std.specs.Prelude.{◌≡◌, IfOk, OnOk};
-ghost use Rattle.std.specs.Option.{option_map};
+//! The recoveries that clients asked for, by session.
+ghost use Rattle.std.specs.Prelude.{◌≡◌, IfOk, OnOk, false, slice_get};
+ghost use Rattle.std.specs.List.{filter};
+ghost use Rattle.std.specs.Option.{option_map, option_map_or};
 ghost use Rattle.aud_base.specs.Places.{noted, places_of};
 ghost use Rattle.aud_node.specs.Cluster.{Cluster};
 ghost use Rattle.aud_node.specs.Stream.{Text};
-ghost use Rattle.aud_session_facts.specs.Recoveries.{recoveries_of};
-ghost use Rattle.aud_explain_app.specs.Asked.{AreAsked, has_refused, is_refusal, numbered, pid_asked, refusals_in, refused_of};
+ghost use Rattle.aud_session_facts.specs.Recoveries.{is_refused, recoveries_of};
+ghost use Rattle.aud_explain_app.specs.Asked.{AreAsked, asked_for, has_refused, is_for, is_one_refused, numbered, numbers_for, pid_asked};
 
 use aud_base::Places;
 use aud_client::Recording;
@@ -18,8 +19,8 @@ use std::hash::RandomState;
 pub struct Asked {
     /// All of them, client after client.
     pub all: Vec<Recovery>,
-    /// Of each session that was asked for in vain, the numbers of these recoveries.
-    pub refused: Places,
+    /// Of each session that was asked for, the numbers of these recoveries, from 0 on.
+    pub numbers: Places,
 }
 
 impl Asked {
@@ -32,23 +33,44 @@ impl Asked {
         ensures { IfOk result (AreAsked recording.now) }
     {
         let all = recoveries(alloc, recording)?;
-        let refused = refused_by_session(alloc, keys, recording, &all)?;
-        Ok(Asked { all, refused })
+        let numbers = numbers_by_session(alloc, keys, recording, &all)?;
+        Ok(Asked { all, numbers })
     }
 
     /// Whether a recovery of the session was refused.
     pub fn is_refused(&self, pid: &str) -> bool
         ensures { (c : Cluster) → AreAsked c self.now → result ≡ has_refused c pid.now }
     {
-        !self.refused.of(pid).is_empty()
+        is_one_refused(&self.all, self.numbers.of(pid))
     }
 
-    /// The recoveries of the session that were refused.
-    pub fn refused_of(&self, alloc: Global, pid: &str) -> Result<Vec<Recovery>, AllocError>
+    /// The recoveries of the session.
+    pub fn of(&self, alloc: Global, pid: &str) -> Result<Vec<Recovery>, AllocError>
         ensures { (c : Cluster) → AreAsked c self.now
-            → IfOk result (λ found. found.items ≡ refused_of c pid.now) }
+            → IfOk result (λ found. found.items ≡ asked_for c pid.now) }
     {
-        numbered(alloc, &self.all, self.refused.of(pid))
+        numbered(alloc, &self.all, self.numbers.of(pid))
+    }
+}
+
+/// Whether one of the recoveries with these numbers was refused.
+fn is_one_refused(all: &[Recovery], numbers: &[usize]) -> bool
+    ensures { result ≡ is_one_refused all.now numbers.now }
+{
+    for number in numbers {
+        if is_refused_at(all, *number) {
+            return true;
+        }
+    }
+    false
+}
+
+fn is_refused_at(all: &[Recovery], number: usize) -> bool
+    ensures { result ≡ option_map_or is_refused (slice_get all.now number) false }
+{
+    match all.get(number) {
+        Some(recovery) => !recovery.granted,
+        None => false,
     }
 }
 
@@ -65,39 +87,49 @@ fn numbered(alloc: Global, all: &[Recovery], numbers: &[usize]) -> Result<Vec<Re
     Ok(found)
 }
 
-/// Of each session the numbers of those of the recoveries that were refused.
-fn refused_by_session(
+/// Those of the recoveries that were refused.
+pub(crate) fn refused_among(alloc: Global, asked: &[Recovery]) -> Result<Vec<Recovery>, AllocError>
+    ensures { IfOk result (λ found. found.items ≡ filter is_refused asked.now) }
+{
+    let mut found = Vec::new(alloc);
+    for recovery in asked {
+        if !recovery.granted {
+            found.push(*recovery)?;
+        }
+    }
+    Ok(found)
+}
+
+/// Of each session the numbers of those of the recoveries that are of it.
+fn numbers_by_session(
     alloc: Global,
     keys: RandomState,
     recording: &Recording<'_>,
     all: &[Recovery],
 ) -> Result<Places, AllocError>
-    ensures { IfOk result (λ refused. (pid : Text)
-        → places_of refused pid ≡ refusals_in recording.now all.now pid) }
+    ensures { IfOk result (λ numbers. (pid : Text)
+        → places_of numbers pid ≡ numbers_for recording.now all.now pid) }
 {
-    let mut refused = Places::new(alloc, keys);
+    let mut numbers = Places::new(alloc, keys);
     for (number, recovery) in all.iter().enumerate() {
-        note_refused(&mut refused, recording, number, recovery)?;
+        note_number(&mut numbers, recording, number, recovery)?;
     }
-    Ok(refused)
+    Ok(numbers)
 }
 
-/// Notes the recovery with this number, if it was refused.
-fn note_refused(
-    refused: &mut Places,
+/// Notes the recovery with this number.
+fn note_number(
+    numbers: &mut Places,
     recording: &Recording<'_>,
     number: usize,
     recovery: &Recovery,
 ) -> Result<(), AllocError>
     ensures { OnOk result ((q : Text)
-        → places_of refused.new q
-        ≡ noted number (is_refusal recording.now q recovery.now) (places_of refused.old q)) }
+        → places_of numbers.new q
+        ≡ noted number (is_for recording.now q recovery.now) (places_of numbers.old q)) }
 {
-    if recovery.granted {
-        return Ok(());
-    }
     match asked_pid(recording, recovery) {
-        Some(pid) => refused.note(number, pid),
+        Some(pid) => numbers.note(number, pid),
         None => Ok(()),
     }
 }

@@ -4,13 +4,13 @@ ghost use Rattle.std.specs.Option.{option_copied};
 ghost use Rattle.aud_client.specs.Replies.{naming_places};
 ghost use Rattle.aud_findings.specs.ClientShown.{only_of};
 ghost use Rattle.aud_rows.specs.ClientPlaces.{AreOf};
-ghost use Rattle.aud_explain_app.specs.Events.{AreEvents, AreEventsAt, place_of, stays_refused};
+ghost use Rattle.aud_explain_app.specs.Events.{AreEvents, AreEventsAt, is_named, place_of, stays_unnamed};
 
 use aud_client::Recording;
 use aud_explanation::ClientEvent;
 use aud_findings::{client_events, numbers_naming};
 use aud_rows::{ClientPlaces, Sheet};
-use aud_session_facts::Recovery;
+use aud_session_facts::{Recovery, stay_of};
 use std::alloc::{AllocError, Global};
 
 /// The place of the one client's tap with a reply that names the session, if there is just one.
@@ -23,21 +23,21 @@ pub(crate) fn only_client(recording: &Recording<'_>, pid: &str) -> Option<usize>
     }
 }
 
-/// What happened to the client of the session, in whose tap these recoveries of it were refused; nothing where it has
-/// not just one client.
+/// What happened to the client of the session, for which these recoveries were asked; nothing where it has not just one
+/// client.
 pub(crate) fn events_of(
     alloc: Global,
     sheet: &Sheet<'_, '_>,
     tap: Option<&ClientPlaces>,
     pid: &str,
-    refused: &[Recovery],
+    asked: &[Recovery],
 ) -> Result<Vec<ClientEvent>, AllocError>
     requires { IfSome (option_copied tap) (AreOf sheet.now.recording.now) }
     ensures { IfOk result (λ events. AreEvents sheet.now.recording.now sheet.now.lines.now
-        (place_of (option_copied tap.entry)) pid.now refused.now events.items) }
+        (place_of (option_copied tap.entry)) pid.now asked.now events.items) }
 {
     match tap {
-        Some(tap) => events_at(alloc, sheet, tap, pid, refused),
+        Some(tap) => events_at(alloc, sheet, tap, pid, asked),
         None => Ok(Vec::new(alloc)),
     }
 }
@@ -48,32 +48,44 @@ fn events_at(
     sheet: &Sheet<'_, '_>,
     tap: &ClientPlaces,
     pid: &str,
-    refused: &[Recovery],
+    asked: &[Recovery],
 ) -> Result<Vec<ClientEvent>, AllocError>
     requires { AreOf sheet.now.recording.now tap.now }
     ensures { IfOk result (λ events.
-        AreEventsAt sheet.now.recording.now sheet.now.lines.now tap.now.place pid.now refused.now
+        AreEventsAt sheet.now.recording.now sheet.now.lines.now tap.now.place pid.now asked.now
         events.items) }
 {
     let mut numbers = Vec::new(alloc);
     numbers.extend_from_slice(numbers_naming(sheet.recording, tap.place, pid))?;
-    push_refused(&mut numbers, tap.place, refused)?;
+    push_unnamed(&mut numbers, sheet.recording, tap.place, pid, asked)?;
     client_events(alloc, sheet, tap, pid, numbers.as_slice())
 }
 
-/// Adds the stays of those of the recoveries that are of the client at this place.
-fn push_refused(
+/// Adds the stays of those of the recoveries that are of the client at this place, where no reply names the session.
+fn push_unnamed(
     numbers: &mut Vec<usize>,
+    recording: &Recording<'_>,
     place: usize,
-    refused: &[Recovery],
+    pid: &str,
+    asked: &[Recovery],
 ) -> Result<(), AllocError>
     ensures { OnOk result (numbers.new.items
-        ≡ numbers.old.items ++ stays_refused place refused.now) }
+        ≡ numbers.old.items ++ stays_unnamed recording.now place pid.now asked.now) }
 {
-    for recovery in refused {
-        if recovery.client == place {
+    for recovery in asked {
+        if recovery.client == place && !is_named(recording, pid, recovery) {
             numbers.push(recovery.stay)?;
         }
     }
     Ok(())
+}
+
+/// Whether the reply to what was asked for names the session.
+fn is_named(recording: &Recording<'_>, pid: &str, recovery: &Recovery) -> bool
+    ensures { result ≡ is_named recording.now pid.now recovery.now }
+{
+    match stay_of(recording, recovery) {
+        Some(stay) => stay.names(pid),
+        None => false,
+    }
 }

@@ -8,6 +8,7 @@ ghost use Rattle.aud_findings.specs.Prepared.{IsPreparedOf};
 ghost use Rattle.aud_explain_app.specs.Events.{place_of};
 ghost use Rattle.aud_explain_app.specs.Explained.{IsExplained};
 
+use crate::asked::refused_among;
 use crate::events::{events_of, only_client};
 use crate::noted::noted_of;
 use crate::refused_told::{RefusedTold, all_refused};
@@ -36,8 +37,8 @@ pub struct Explained<'r> {
     pub causes: Vec<CauseFound>,
 }
 
-/// All that is told of the session with this pid, on which this is the verdict, and of which these recoveries were
-/// refused. What was prepared is of the same recording; a tap that wasn't asked for there is read here.
+/// All that is told of the session with this pid, on which this is the verdict, and for which these recoveries were
+/// asked. What was prepared is of the same recording; a tap that wasn't asked for there is read here.
 ///
 /// Beside such taps it costs the session's own records and stays, and what was due to it.
 pub fn explained_of<'r, 'a>(
@@ -46,20 +47,20 @@ pub fn explained_of<'r, 'a>(
     prepared: &Prepared,
     pid: &str,
     verdict: &Verdict,
-    refused: &[Recovery],
+    asked: &[Recovery],
 ) -> Result<Explained<'r>, AllocError>
     requires { IsPreparedOf sheet.recording.now prepared.now }
     ensures { IfOk result (IsExplained sheet.entry.recording.now sheet.entry.lines.now pid.now
-        verdict.now refused.now) }
+        verdict.now asked.now) }
 {
     let Some(place) = only_client(sheet.recording, pid) else {
-        return explained_by(alloc, sheet, prepared, None, pid, verdict, refused);
+        return explained_by(alloc, sheet, prepared, None, pid, verdict, asked);
     };
     match prepared.tap(place) {
-        Some(tap) => explained_by(alloc, sheet, prepared, Some(tap), pid, verdict, refused),
+        Some(tap) => explained_by(alloc, sheet, prepared, Some(tap), pid, verdict, asked),
         None => {
             let tap = ClientPlaces::read(alloc, sheet.recording.logs(), place)?;
-            explained_by(alloc, sheet, prepared, Some(&tap), pid, verdict, refused)
+            explained_by(alloc, sheet, prepared, Some(&tap), pid, verdict, asked)
         }
     }
 }
@@ -72,14 +73,14 @@ fn explained_by<'r, 'a>(
     tap: Option<&ClientPlaces>,
     pid: &str,
     verdict: &Verdict,
-    refused: &[Recovery],
+    asked: &[Recovery],
 ) -> Result<Explained<'r>, AllocError>
     requires prepared { IsPreparedOf sheet.recording.now prepared.now }
     requires tap { IfSome (option_copied tap) (AreOf sheet.recording.now) }
     requires client { place_of (option_copied tap)
         ≡ only_of (naming_places sheet.recording.now.taps pid.now) }
     ensures { IfOk result (IsExplained sheet.entry.recording.now sheet.entry.lines.now pid.now
-        verdict.now refused.now) }
+        verdict.now asked.now) }
 {
     let account = account_of(alloc, sheet.recording, pid)?;
     let account = account.as_ref();
@@ -87,8 +88,9 @@ fn explained_by<'r, 'a>(
     let turns = turns_of(alloc, &sheet, pid, account)?;
     let noted = noted_of(alloc, sheet.recording, prepared, pid, verdict, account)?;
     let causes = causes_of(alloc, sheet, tap, pid, verdict, account, &noted)?;
-    let events = events_of(alloc, &sheet, tap, pid, refused)?;
-    let refused = all_refused(alloc, &sheet, prepared, refused)?;
+    let events = events_of(alloc, &sheet, tap, pid, asked)?;
+    let refused = refused_among(alloc, asked)?;
+    let refused = all_refused(alloc, &sheet, prepared, refused.as_slice())?;
     Ok(Explained {
         outcome,
         turns,

@@ -3,8 +3,8 @@ ghost use Rattle.std.specs.Prelude.{◌≡◌, ◌++◌, IfOk, OnOk, flat_map, m
 ghost use Rattle.aud_explanation.specs.declared.cause.CauseOf.TheVariants.{Fault};
 ghost use Rattle.aud_findings.specs.Also.{also_seen};
 ghost use Rattle.std.specs.Option.{option_copied, option_map};
-ghost use Rattle.aud_findings.specs.Refused.{missed_seen, refused_seen};
-ghost use Rattle.aud_explain_app.specs.Lent.{also_told, ask_line, cause_of, cause_told, causes_of_refusal, causes_of_refusals, recoveries_shown, recovery_told, shown_of};
+ghost use Rattle.aud_findings.specs.Refused.{missed_seen};
+ghost use Rattle.aud_explain_app.specs.Lent.{also_told, ask_line, cause_of, cause_told, causes_of_refusal, causes_of_refusals, recoveries_shown, recovery_of, recovery_told, shown_of};
 
 use crate::refused_told::RefusedTold;
 use aud_causes::CauseFound;
@@ -39,7 +39,7 @@ pub(crate) fn refused_lent<'l, 'r>(
 {
     let mut lent = Vec::new(alloc);
     for told in refused {
-        push_recovery(&mut lent, told.shown.as_ref())?;
+        push_recovery(&mut lent, told)?;
     }
     Ok(lent)
 }
@@ -47,25 +47,30 @@ pub(crate) fn refused_lent<'l, 'r>(
 /// Adds the refused recovery, if it is shown.
 fn push_recovery<'l, 'r>(
     lent: &mut Vec<RefusedRecovery<'l, 'r>>,
-    shown: Option<&'l RefusedShown<'r>>,
+    told: &'l RefusedTold<'r>,
 ) -> Result<(), AllocError>
     ensures { OnOk result (map recovery_told lent.new.items
-        ≡ map recovery_told lent.old.items ++ shown_of (option_copied shown.entry)) }
+        ≡ map recovery_told lent.old.items ++ shown_of told.now) }
 {
-    if let Some(shown) = shown {
-        lent.push(recovery_lent(shown))?;
+    if let Some(shown) = &told.shown {
+        lent.push(recovery_lent(told, shown))?;
     }
     Ok(())
 }
 
-fn recovery_lent<'l, 'r>(shown: &'l RefusedShown<'r>) -> RefusedRecovery<'l, 'r>
-    ensures { recovery_told result ≡ refused_seen shown.now }
+fn recovery_lent<'l, 'r>(
+    told: &'l RefusedTold<'r>,
+    shown: &'l RefusedShown<'r>,
+) -> RefusedRecovery<'l, 'r>
+    ensures { recovery_told result ≡ recovery_of told.now shown.now }
 {
     RefusedRecovery {
         ask: shown.ask,
         reply: shown.reply,
         instead: shown.instead,
         missed: missed_lent(shown),
+        has_cause: !told.causes.is_empty(),
+        refuted: told.refuted.as_slice(),
     }
 }
 

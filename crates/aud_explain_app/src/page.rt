@@ -5,7 +5,7 @@ pub(crate) const HEAD: &str = r#"<!doctype html>
 <html lang="en">
 <head>
 <meta charset="utf-8">
-<meta http-equiv="Content-Security-Policy" content="default-src 'none'; script-src 'sha256-9oJImlL4lsZTKJ/+4qX8etX/aoWr/H7qWTZOvzRB0is='; style-src 'sha256-Sa/bcERnPpFmw+weoDfErq+OoKo9cuKjOXv+alQSW30='; base-uri 'none'; form-action 'none'; require-trusted-types-for 'script'; trusted-types 'none'">
+<meta http-equiv="Content-Security-Policy" content="default-src 'none'; script-src 'sha256-B0cQyhRKJcRJ/bX54juwvzntxVlZNTyjE3L+QFXdeU0='; style-src 'sha256-Sa/bcERnPpFmw+weoDfErq+OoKo9cuKjOXv+alQSW30='; base-uri 'none'; form-action 'none'; require-trusted-types-for 'script'; trusted-types 'none'">
 <meta name="viewport" content="width=device-width, initial-scale=1">
 <title>sioaudit report</title>
 <style>
@@ -271,7 +271,7 @@ const SESSION = {
   evidence: [ROW], evidence_left: 0, also: [{ lines: [0], position: 0, to: 0 }], also_left: 0, alike: [""], causes: [{ id: "", lines: [0], of: "", of_line: COUNT, state: "", sure: false, todo: "", why: "" }], causes_left: 0,
   refuted: [""],
   events: [{ happens: "", lines: [0, 0], after: COUNT, from: COUNT, to: COUNT }], events_left: 0,
-  refused: [{ ask: ROW, reply: maybe(ROW), instead: TEXT, missed: maybe([{ off: "", position: 0 }]), missed_left: COUNT }], refused_left: 0,
+  refused: [{ ask: ROW, reply: maybe(ROW), instead: TEXT, missed: maybe([{ off: "", position: 0 }]), missed_left: COUNT, has_cause: false, refuted: [""] }], refused_left: 0,
   turns: [{ turn: 0, node: "", begin: "", end: "", low: 0, high: COUNT, lines: [0], took: maybe([0, 0]) }], turns_left: 0,
 };
 const SUMMARY = {
@@ -998,17 +998,17 @@ const causeView = ({ id, lines, of, of_line, state, sure, todo, why }) => h("div
   h("span", { class: "soft" }, [inLines(lines), of === "refused" ? `of the ask${of_line === null ? "" : ` on line ${of_line}`}` : ""].filter(Boolean).join(", ")),
   h("p", {}, visible(why)), h("p", {}, h("b", {}, "Do: "), visible(todo)));
 
-/** @param {Session} session */
-const refutedView = session => session.refuted.length === 0 ? null : h("details", {},
-  h("summary", {}, isUnknown(session) ? "No known cause of the fault holds: " : "", counted(session.refuted.length, "was", "were"), " refuted"),
-  h("ul", {}, ...session.refuted.map(it => h("li", {}, code(it)))));
+/** @param {string[]} refuted @param {string} of what no known cause of holds; empty where one does */
+const refutedView = (refuted, of) => refuted.length === 0 ? null : h("details", {},
+  h("summary", {}, of && `No known cause of the ${of} holds: `, counted(refuted.length, "was", "were"), " refuted"),
+  h("ul", {}, ...refuted.map(it => h("li", {}, code(it)))));
 
 /** @param {Session} session @param {Session["refused"][number]} refused @param {(line: number) => void} choose */
-const refusedView = (session, { ask, reply, instead, missed, missed_left }, choose) => h("div", {},
+const refusedView = (session, { ask, reply, instead, missed, missed_left, has_cause, refuted }, choose) => h("div", {},
   h("p", {}, `The client got ${instead === null ? "no session" : "session "}`, code(instead),
     `; missed: ${missed === null ? "not known" : counted(missed.length + (missed_left ?? 0), "event")}.`),
   h("ul", {}, ...listed(missed ?? [], missed_left ?? 0, ({ off, position }) => h("li", {}, `entry ${position} `, code(off)))),
-  rowsTable(session, reply === null ? [ask] : [ask, reply], 0, "The ask and its reply", choose));
+  rowsTable(session, reply === null ? [ask] : [ask, reply], 0, "The ask and its reply", choose), refutedView(refuted, has_cause ? "" : "refusal"));
 
 /** @param {Session} session */
 const wordsView = ({ turns, turns_left, events, events_left }) => h("details", {}, h("summary", {}, "The turns and the client in words"), h("div", { class: "columns" },
@@ -1036,7 +1036,7 @@ function sessionView(session, room) {
         alike.length > 0 ? h("p", {}, `The same of ${counted(alike.length, "more session")}: `, ...alike.slice(0, FIRST).map(it => h("span", {}, code(it), " ")),
           alike.length > FIRST ? `.. and ${grouped(alike.length - FIRST)} more` : null) : null),
       refused.length === 0 ? null : h("div", {}, h("h3", {}, "Refused recoveries"), ...listed(refused, refused_left, it => refusedView(session, it, onRow), it => h("p", {}, it))),
-      fault === null && refused.length === 0 ? null : h("div", {}, h("h3", {}, "Causes"), ...listed(causes, causes_left, causeView, it => h("p", {}, it)), refutedView(session),
+      fault === null && refused.length === 0 ? null : h("div", {}, h("h3", {}, "Causes"), ...listed(causes, causes_left, causeView, it => h("p", {}, it)), refutedView(session.refuted, isUnknown(session) ? "fault" : ""),
         causes.length + session.refuted.length === 0 ? "No causes are known." : null)),
     wordsView(session));
   return view;

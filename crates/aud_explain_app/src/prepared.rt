@@ -34,7 +34,7 @@ fn places_of(
     for session in sessions {
         let pid = session.pid.as_str();
         places.extend_from_slice(recording.naming(pid))?;
-        for recovery in &asked.refused_of(alloc, pid)? {
+        for recovery in &asked.of(alloc, pid)? {
             places.push(recovery.client)?;
         }
     }

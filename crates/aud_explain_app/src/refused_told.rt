@@ -5,7 +5,7 @@ ghost use Rattle.aud_rows.specs.ClientPlaces.{AreOf};
 ghost use Rattle.aud_findings.specs.Prepared.{IsPreparedOf};
 ghost use Rattle.aud_explain_app.specs.Refused.{IsRefusedTold};
 
-use aud_causes::{CauseFound, causes_of_refusal};
+use aud_causes::{CauseFound, causes_of_refusal, refuted_of_refusal};
 use aud_findings::{Prepared, RefusedShown, refused_shown};
 use aud_rows::{ClientPlaces, Sheet};
 use aud_session_facts::Recovery;
@@ -17,6 +17,8 @@ pub struct RefusedTold<'r> {
     /// What shows it; none where the line is not known on which the client asks.
     pub shown: Option<RefusedShown<'r>>,
     pub causes: Vec<CauseFound>,
+    /// The names of the causes that it can have and that were refuted.
+    pub refuted: Vec<&'static str>,
 }
 
 /// What is told of each of these recoveries, in their order.
@@ -69,5 +71,10 @@ fn told_in<'r>(
 {
     let shown = refused_shown(alloc, sheet, tap, recovery)?;
     let causes = causes_of_refusal(alloc, sheet, tap, recovery)?;
-    Ok(RefusedTold { shown, causes })
+    let refuted = refuted_of_refusal(alloc, causes.as_slice())?;
+    Ok(RefusedTold {
+        shown,
+        causes,
+        refuted,
+    })
 }

@@ -130,9 +130,9 @@ fn text_of(
 {
     let pid = session.session.pid.as_str();
     let verdict = &session.session.verdict;
-    let refused = asked.refused_of(alloc, pid)?;
-    let refused = refused.as_slice();
-    let explained = explained_of(alloc, sheet, prepared, pid, verdict, refused)?;
+    let own = asked.of(alloc, pid)?;
+    let own = own.as_slice();
+    let explained = explained_of(alloc, sheet, prepared, pid, verdict, own)?;
     let alike = session.alike.as_slice();
     told_text(alloc, layout, pid, verdict, alike, &explained)
 }

@@ -210,7 +210,7 @@ reply-plain files pid None = refl
 reply-plain files pid (Some reply) = row-plain files pid reply
 
 refused-plain : (files : List InputFile) (pid : List ℕ) (r : RefusedRecovery) → has_float (refused_data files pid r) ≡ false
-refused-plain files pid r = rw (row-plain files pid r.ask, text-plain (option_copied r.instead), missed-plain (option_copied r.missed), left-plain (option_copied r.missed), reply-plain files pid r.reply) refl
+refused-plain files pid r = rw (row-plain files pid r.ask, text-plain (option_copied r.instead), missed-plain (option_copied r.missed), left-plain (option_copied r.missed), items-plain text_data (λ text. refl) r.refuted.now, reply-plain files pid r.reply) refl
 
 -- ---- the members of the lists
 

@@ -6,3 +6,4 @@ pub mod JsonPlain
 pub mod Laid
 pub mod NamedApart
 pub mod PlainFront
+pub mod RowsShown

@@ -1,13 +1,13 @@
 -- The member of the refused recoveries.
 use Rattle.std.specs.Prelude.{ℕ, List, codes, Option, Some, None}
 use Rattle.std.specs.Option.{option_copied}
-use Rattle.serde_json.specs.Data.{Data, null, string, array, object, Members, no_members, member, put}
+use Rattle.serde_json.specs.Data.{Data, boolean, null, string, array, object, Members, no_members, member, put}
 use Rattle.aud_cert.specs.Text.{items, whole}
 use Rattle.aud_input.specs.declared.input_file.InputFile.{InputFile}
 use Rattle.aud_rows.specs.declared.row.Row.{Row}
 use Rattle.aud_explanation.specs.declared.refused.Missed.{Missed}
 use Rattle.aud_explanation.specs.declared.refused.RefusedRecovery.{RefusedRecovery}
-use Rattle.aud_explanation.specs.JsonValue.{text_or_null}
+use Rattle.aud_explanation.specs.JsonValue.{text_data, text_or_null}
 use Rattle.aud_explanation.specs.Long.{all_shown, left_out}
 use Rattle.aud_explanation.specs.JsonRow.{row_data}
 
@@ -30,14 +30,16 @@ abbrev pub reply_data : List InputFile → List ℕ → Option Row → Data
 reply_data files pid (Some reply) = row_data files pid reply
 reply_data files pid None = null
 
--- `{"ask":..,"instead":..,"missed":..,"missed_left":..,"reply":..}`
+-- `{"ask":..,"has_cause":..,"instead":..,"missed":..,"missed_left":..,"refuted":[..],"reply":..}`
 abbrev pub refused_data : List InputFile → List ℕ → RefusedRecovery → Data
 refused_data files pid r =
     object (member (codes "ask") (row_data files pid r.ask)
+    (member (codes "has_cause") (boolean r.has_cause)
     (member (codes "instead") (text_or_null (option_copied r.instead))
     (member (codes "missed") (all_missed_data (option_copied r.missed))
     (member (codes "missed_left") (missed_left_data (option_copied r.missed))
-    (member (codes "reply") (reply_data files pid r.reply) no_members)))))
+    (member (codes "refuted") (array (items text_data r.refuted.now))
+    (member (codes "reply") (reply_data files pid r.reply) no_members)))))))
 
 -- the refused recoveries that are shown of the session with this pid, and how many are left out after the hundredth
 unfoldable pub with_refused : List InputFile → List ℕ → List RefusedRecovery → Members → Members

@@ -1,28 +1,34 @@
--- The rows of long evidence: of more than 200 the first 100 and the last 100, and of those between them those at which
--- the fault shows.
-use Rattle.std.specs.Prelude.{ℕ, ◌-◌, Bool, true, false, List, ◌++◌, drop, length, take}
-use Rattle.std.specs.List.{filter}
+-- The rows of long evidence: of more than 200 the first 100 and the last 100, and of those between them the first at
+-- which the fault shows, behind the first earlier record that it contradicts.
+use Rattle.std.specs.Prelude.{ℕ, ◌-◌, Bool, true, false, List, ◌++◌, drop, find, length, option_to_list, take}
 use Rattle.aud_rows.specs.declared.row.Row.{Row}
 use Rattle.aud_rows.specs.declared.row.Role.{Role}
 use Rattle.aud_rows.specs.declared.row.Role.TheVariants.{Fault, Earlier}
 use Rattle.aud_explanation.specs.Long.{first_shown, last_shown, left_out}
 
--- the fault shows at the record, or at the one before it that is shown for it
-abbrev pub is_kept_role : Role → Bool
-is_kept_role Fault = true
-is_kept_role Earlier = true
-is_kept_role role = false
+-- the fault shows at such a record
+abbrev pub is_fault : Role → Bool
+is_fault Fault = true
+is_fault role = false
 
-abbrev pub is_kept : Row → Bool
-is_kept row = is_kept_role row.role
+-- the fault contradicts such a record
+abbrev pub is_earlier : Role → Bool
+is_earlier Earlier = true
+is_earlier role = false
+
+abbrev pub is_fault_row : Row → Bool
+is_fault_row row = is_fault row.role
+
+abbrev pub is_earlier_row : Row → Bool
+is_earlier_row row = is_earlier row.role
 
 -- those between the first 100 and the last 100
 unfoldable pub rows_between : List Row → List Row
 rows_between rows = take (left_out rows) (drop 100 rows)
 
--- those of them that are shown all the same, 100 at most
+-- those of them that are shown all the same, two at most
 unfoldable pub kept_rows : List Row → List Row
-kept_rows rows = take 100 (filter is_kept (rows_between rows))
+kept_rows rows = option_to_list (find is_earlier_row (rows_between rows)) ++ option_to_list (find is_fault_row (rows_between rows))
 
 -- how many are left out
 unfoldable pub rows_left : List Row → ℕ

@@ -1,5 +1,5 @@
 -- The recoveries that were refused.
-use Rattle.std.specs.Prelude.{ℕ, List, [], ◌++◌, codes, decimal, flat_map, length, Option, Some, None}
+use Rattle.std.specs.Prelude.{ℕ, Bool, true, false, List, [], ◌++◌, codes, decimal, flat_map, length, Option, Some, None}
 use Rattle.std.specs.Option.{option_copied}
 use Rattle.aud_verdict.specs.declared.verdict.Verdict.{Verdict}
 use Rattle.aud_rows.specs.declared.row.Row.{Row}
@@ -56,9 +56,14 @@ abbrev pub all_missed_text : Option (List Missed) → List ℕ
 all_missed_text (Some entries) = flat_map missed_text (first_shown entries) ++ more_line (left_out entries) ++ flat_map missed_text (last_shown entries)
 all_missed_text None = []
 
--- what the client got instead, the ask and the reply, and what it missed
+-- a line says so where no known cause of it holds
+abbrev pub unexplained_text : Bool → List ℕ
+unexplained_text true = []
+unexplained_text false = codes "no known cause of the refusal holds\n"
+
+-- what the client got instead, the ask and the reply, what it missed, and whether a cause is known
 abbrev pub refused_text : List InputFile → List ℕ → Verdict → RefusedRecovery → List ℕ
-refused_text files pid verdict r = head_text r ++ row_text files pid verdict (length r.ask.tap.now) r.ask ++ reply_text files pid verdict (length r.ask.tap.now) r.reply ++ all_missed_text (option_copied r.missed)
+refused_text files pid verdict r = head_text r ++ row_text files pid verdict (length r.ask.tap.now) r.ask ++ reply_text files pid verdict (length r.ask.tap.now) r.reply ++ all_missed_text (option_copied r.missed) ++ unexplained_text r.has_cause
 
 -- these: those of the session with this pid
 abbrev pub each_refused_text : List InputFile → List ℕ → Verdict → List RefusedRecovery → List ℕ

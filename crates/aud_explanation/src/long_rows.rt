@@ -1,29 +1,33 @@
 //! The rows of long evidence.
-ghost use Rattle.std.specs.Prelude.{◌≡◌, IfOk};
-ghost use Rattle.std.specs.List.{filter};
-ghost use Rattle.aud_explanation.specs.LongRows.{is_kept, is_kept_role, kept_rows, rows_between, rows_left, rows_shown};
+ghost use Rattle.std.specs.Prelude.{◌≡◌, IfOk, find};
+ghost use Rattle.aud_explanation.specs.LongRows.{is_earlier_row, is_fault_row, kept_rows, rows_between, rows_left, rows_shown};
 
 use crate::long::{first_shown, front, last_shown, left_out, past};
 use aud_rows::{Role, Row};
 use std::alloc::{AllocError, Global};
 
-fn is_kept_role(role: Role) -> bool
-    ensures { result ≡ is_kept_role role }
+/// The first of the rows at which the fault shows.
+fn first_fault<'r>(rows: &[Row<'r>]) -> Option<Row<'r>>
+    ensures { result ≡ find is_fault_row rows.now }
 {
-    matches!(role, Role::Fault | Role::Earlier)
-}
-
-/// Those of the rows at which the fault shows.
-fn kept_of<'r>(alloc: Global, rows: &[Row<'r>]) -> Result<Vec<Row<'r>>, AllocError>
-    ensures { IfOk result (λ kept. kept.items ≡ filter is_kept rows.now) }
-{
-    let mut kept = Vec::new(alloc);
     for row in rows {
-        if is_kept_role(row.role) {
-            kept.push(*row)?;
+        if matches!(row.role, Role::Fault) {
+            return Some(*row);
         }
     }
-    Ok(kept)
+    None
+}
+
+/// The first of the rows whose record the fault contradicts.
+fn first_earlier<'r>(rows: &[Row<'r>]) -> Option<Row<'r>>
+    ensures { result ≡ find is_earlier_row rows.now }
+{
+    for row in rows {
+        if matches!(row.role, Role::Earlier) {
+            return Some(*row);
+        }
+    }
+    None
 }
 
 /// Those between the first 100 and the last 100; none of at most 200.
@@ -34,14 +38,19 @@ fn rows_between<'s, 'r>(rows: &'s [Row<'r>]) -> &'s [Row<'r>]
     front(past(rows, 100), left_out(rows))
 }
 
-/// Those of the rows between at which the fault shows, 100 at most.
+/// Those of the rows between that are shown all the same: two at most.
 #[tactic(auto, unfolding(crate::specs::LongRows::kept_rows))]
 pub(crate) fn kept_rows<'r>(alloc: Global, rows: &[Row<'r>]) -> Result<Vec<Row<'r>>, AllocError>
     ensures { IfOk result (λ kept. kept.items ≡ kept_rows rows.now) }
 {
-    let marked = kept_of(alloc, rows_between(rows))?;
+    let between = rows_between(rows);
     let mut kept = Vec::new(alloc);
-    kept.extend_from_slice(front(marked.as_slice(), 100))?;
+    if let Some(row) = first_earlier(between) {
+        kept.push(row)?;
+    }
+    if let Some(row) = first_fault(between) {
+        kept.push(row)?;
+    }
     Ok(kept)
 }
 

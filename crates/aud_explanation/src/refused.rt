@@ -13,6 +13,10 @@ pub struct RefusedRecovery<'l, 'r> {
     pub instead: Option<&'r str>,
     /// What it missed of the session that it asked for, in the order of the stream; none where that is not known.
     pub missed: Option<&'l [Missed<'r>]>,
+    /// Whether a cause of it is told.
+    pub has_cause: bool,
+    /// The names of the causes that it can have and that were refuted.
+    pub refuted: &'l [&'static str],
 }
 
 /// An entry that a client missed.

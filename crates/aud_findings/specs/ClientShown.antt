@@ -8,8 +8,7 @@ use Rattle.aud_client.specs.Received.{stays_naming}
 use Rattle.aud_client.specs.Replies.{naming_places}
 use Rattle.aud_client.specs.StaySeen.{StaySeen}
 use Rattle.aud_explanation.specs.declared.client.Client.{Client}
-use Rattle.aud_rows.specs.declared.row.Role.{Role}
-use Rattle.aud_rows.specs.declared.row.Role.TheVariants.{Fault}
+use Rattle.aud_explanation.specs.LongRows.{is_fault}
 use Rattle.aud_rows.specs.Seen.{RowSeen, SaysSeen, Asks, Reply, Got, Lost, NoPacket}
 use Rattle.aud_rows.specs.StayRows.{stays_at}
 
@@ -30,10 +29,6 @@ conn_in (Got conn position off) = Some conn
 conn_in (Lost conn) = Some conn
 conn_in (NoPacket conn) = Some conn
 conn_in _ = None
-
-abbrev pub is_fault : Role → Bool
-is_fault Fault = true
-is_fault _ = false
 
 -- the connection of the first of the rows at which the fault shows
 abbrev pub fault_conn : List RowSeen → Option ℕ

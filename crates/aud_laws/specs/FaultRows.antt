@@ -14,7 +14,7 @@ use Rattle.aud_session_facts.specs.declared.asked.Recovery.{Recovery}
 use Rattle.aud_verdict.specs.declared.verdict.Verdict.TheVariants.{No}
 use Rattle.aud_verdict.specs.Session.{SessionLogs, IsSession, received_by}
 use Rattle.aud_verdict.specs.Verdict.{IsVerdict}
-use Rattle.aud_findings.specs.ClientShown.{is_fault}
+use Rattle.aud_explanation.specs.LongRows.{is_fault, rows_shown}
 use Rattle.aud_explain_app.specs.declared.explained.Explained.{Explained}
 use Rattle.aud_explain_app.specs.Explained.{IsExplained}
 
@@ -47,7 +47,7 @@ pub record AreWrittenOf (c : Cluster) (lines : List TapLines) (whole : Bool) (pi
   pub refused : List Recovery
   pub told : Explained
   pub is_told : IsExplained c lines pid (No fault) refused told
-  pub are : rows ≡ map row_seen told.outcome.evidence.items
+  pub are : rows ≡ map row_seen (rows_shown told.outcome.evidence.items)
 
 -- the session's client received an event of it
 pub record HasReceived (c : Cluster) (pid : Text) : Type 0 where

@@ -6,7 +6,7 @@ use Rattle.aud_tap.specs.declared.records.ClientRec.TheVariants.{Conn, TextIn, B
 use Rattle.aud_eio.specs.Body.{body_pieces}
 use Rattle.aud_sio.specs.Message.{Message, Bytes, Lent, at}
 use Rattle.aud_refusals.specs.declared.no_packet.NoPacket.{NoPacket}
-use Rattle.aud_refusals.specs.NoPacket.{alone, begin_from, engine_refusal, messages_before, no_packet_at, packet_messages, record_refusal, texts_refusal}
+use Rattle.aud_refusals.specs.NoPacket.{alone, begin_from, engine_refusal, messages_before, refused_at, packet_messages, record_refusal, texts_refusal}
 use Rattle.aud_refusals.specs.Private.Fed.{Passes, refused_to, texts_refusal_to}
 
 texts-same : (before : List (ℕ × Message)) (held : List Message) (texts : List (List ℕ)) → Passes [] before held → texts_refusal_to held texts ≡ texts_refusal before texts
@@ -24,7 +24,7 @@ refused-same before held Lost passes = refl
 -- the record with this number
 pub record-of : (recs : List ClientRec) (number : ℕ) (rec : ClientRec) (before connection : List ClientRec) (held : List Message) → slice_get recs number ≡ Some rec
     → before ≡ take number recs → connection ≡ drop (begin_from 0 0 before) before → Passes [] (messages_before connection) held
-    → refused_to held rec ≡ no_packet_at recs number
+    → refused_to held rec ≡ refused_at recs number
 record-of recs number rec before connection held is front back passes =
     let all : connection ≡ drop (begin_from 0 0 (take number recs)) (take number recs) = back ∙ ap (λ (b : List ClientRec). drop (begin_from 0 0 b) b) front in
     refused-same (messages_before connection) held rec passes

@@ -4,6 +4,7 @@ pub mod Members
 pub mod Opened
 pub mod Excess
 pub mod TapName
+pub mod NoJson
 pub mod JsonHelp
 pub mod FieldHelp
 pub mod LimitHelp

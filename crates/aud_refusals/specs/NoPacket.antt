@@ -3,17 +3,27 @@
 -- It is said of any record what is refused in it, after the messages of its connection. That it is so exactly of the
 -- records that `tap_packets` counts as bad isn't said here: both rest on `engine_packet_of` and `wholes_of`, where the
 -- one counts the packets of a record and the other the records of a connection.
-use Rattle.std.specs.Prelude.{ℕ, zero, suc, List, [], ◌∷◌, ◌++◌, Option, Some, None, option_map, Ok, Err, Bool, true, false, if◌then◌else◌, flat_map, take, drop, slice_get}
+use Rattle.std.specs.Prelude.{ℕ, zero, suc, ◌-◌, ◌==◌, ◌||◌, nat_lt, List, [], ◌∷◌, ◌++◌, Option, Some, None, option_map, Result, Ok, Err, Bool, true, false, if◌then◌else◌, flat_map, take, drop, slice_get}
+use Rattle.std.specs.List.{after_first}
 use Rattle.std.specs.Option.{option_and_then, option_or}
 use Rattle.aud_tap.specs.declared.records.ClientRec.{ClientRec}
 use Rattle.aud_tap.specs.declared.records.ClientRec.TheVariants.{Conn, TextIn, BytesIn, Poll, Lost}
 use Rattle.aud_eio.specs.Packet.{engine_packet_of}
+use Rattle.aud_eio.specs.Packet as eio
+use Rattle.aud_eio.specs.declared.packet.EioFault.{EioFault}
 use Rattle.aud_eio.specs.Body.{body_pieces}
+use Rattle.aud_sio.specs.declared.fault.SioFault.TheVariants as sio
+use Rattle.aud_sio.specs.Digits.{after_digits}
+use Rattle.aud_sio.specs.Namespace.{leading_namespace}
 use Rattle.aud_sio.specs.Message.{Message, Bytes, Lent, messages_of, at}
 use Rattle.aud_sio.specs.Wholes.{Answer, wholes_of}
 use Rattle.aud_client.specs.TapPackets.{messages_at}
+use Rattle.aud_refusals.specs.NoJson.{is_json, no_json}
 use Rattle.aud_refusals.specs.declared.no_packet.NoPacket.{NoPacket}
-use Rattle.aud_refusals.specs.declared.no_packet.Refusal.TheVariants.{Engine, Socket}
+use Rattle.aud_refusals.specs.declared.no_packet.PayloadFault.{PayloadFault}
+use Rattle.aud_refusals.specs.declared.no_packet.PayloadFault.TheVariants.{Missing, NoList, NoJson}
+use Rattle.aud_refusals.specs.declared.no_packet.Refusal.{Refusal}
+use Rattle.aud_refusals.specs.declared.no_packet.Refusal.TheVariants.{Engine, Socket, Payload}
 
 -- ---- the records before it
 
@@ -88,6 +98,65 @@ record_refusal before (BytesIn b) = alone (first_refusal (wholes_of (before ++ a
 record_refusal before (Poll t) = texts_refusal before (body_pieces t)
 record_refusal before _ = None
 
+-- the refusal of the record with this number, by the decoder
+abbrev pub refused_at : List ClientRec → ℕ → Option NoPacket
+refused_at recs number = option_and_then (record_refusal (messages_before (connection_of (take number recs)))) (slice_get recs number)
+
+-- ---- what is wrong with a payload
+
+-- the text of the record's packet with this number, of a polling body, or of its one packet
+abbrev pub packet_text : ClientRec → Option ℕ → Option (List ℕ)
+packet_text (TextIn t) number = Some t
+packet_text (Poll t) (Some number) = slice_get (body_pieces t) (number - 1)
+packet_text _ _ = None
+
+-- the message of a packet with this text
+abbrev pub message_in : Result eio.Packet EioFault → Option (List ℕ)
+message_in (Ok (eio.Message text)) = Some text
+message_in _ = None
+
+abbrev pub message_text : List ℕ → Option (List ℕ)
+message_text text = message_in (engine_packet_of text)
+
+-- the message of the record's packet with that number
+abbrev pub message_of : ClientRec → Option ℕ → Option (List ℕ)
+message_of rec number = option_and_then message_text (packet_text rec number)
+
+-- the sign after a count of attachments
+abbrev pub is_dash : ℕ → Bool
+is_dash b = b == 45
+
+-- what follows the type, which is one byte, and where it is that of a packet with attachments, their count
+abbrev pub after_type : List ℕ → List ℕ
+after_type [] = []
+after_type (b ∷ rest) =
+    if nat_lt b 128 then (if b == 53 || b == 54 then after_first is_dash rest else rest)
+    else []
+
+-- what follows type, count, namespace and acknowledgement id, in a packet in which these are right
+abbrev pub payload_of : List ℕ → List ℕ
+payload_of text = after_digits (leading_namespace (after_type text)).1
+
+-- why a payload is not what the kind wants, where the decoder refuses it
+abbrev pub payload_fault : List ℕ → PayloadFault
+payload_fault [] = Missing
+payload_fault (b ∷ bs) = if is_json (b ∷ bs) then NoList else NoJson (no_json (b ∷ bs))
+
+abbrev pub told_refusal : Refusal → Option (List ℕ) → Refusal
+told_refusal (Socket sio.Payload) (Some message) = Payload (payload_fault (payload_of message))
+told_refusal refusal message = refusal
+
+-- the refusal, and of a payload what is wrong with it
+abbrev pub told : ClientRec → NoPacket → NoPacket
+told rec found = record {
+  refusal = told_refusal found.refusal (message_of rec found.packet);
+  packet = found.packet;
+}
+
+-- the same of a refusal of the record, if there are both
+abbrev pub told_of : Option NoPacket → Option ClientRec → Option NoPacket
+told_of found rec = option_and_then (λ (r : ClientRec). option_map (told r) found) rec
+
 -- the refusal of the record with this number
 abbrev pub no_packet_at : List ClientRec → ℕ → Option NoPacket
-no_packet_at recs number = option_and_then (record_refusal (messages_before (connection_of (take number recs)))) (slice_get recs number)
+no_packet_at recs number = told_of (refused_at recs number) (slice_get recs number)

@@ -95,7 +95,7 @@ fn push_help(
 /// - Of a limit the first field that is outside its own, what it has, and the limit; or where all are within, how many
 /// taps,
 ///   records, entries or pids there may be.
-/// - Of JSON how deep it nests, up to which byte it is UTF-8, or with what it does not begin or end.
+/// - Of JSON up to which byte it is UTF-8, with what it does not begin or end, or what is wrong in between ([`NoJson`](crate::NoJson)).
 /// - Of a name the first byte that cannot stand in one, or how many there are.
 /// - `first_header` is the line of the header that stands already: that of the line's tap, and for
 ///   [`SecondStream`](InputCode::SecondStream) that of the stream.

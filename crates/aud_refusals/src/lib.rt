@@ -1,7 +1,7 @@
 //! Why a line, or a packet of a client, is refused.
 //!
 //! [`refusal_help`] says which field of a refused line is missing or of another form, which limit is passed and by what,
-//! how deep JSON nests, and where the header stands that a line contradicts.
+//! what is wrong with its JSON, and where the header stands that a line contradicts.
 //!
 //! ```
 //! use aud_reader::InputCode;
@@ -12,14 +12,14 @@
 //! assert_eq!(rt; help.as_str(), "The field room is missing: it has to be a text.\n");
 //! ```
 //!
-//! [`no_packet_at`] says why a record of a client's tap is no packet: the decoder's refusal of it, and of which packet
-//! of a polling body. [`aud_client::Transcript`] has the number of the first such record.
+//! [`no_packet_at`] says why a record of a client's tap is no packet: the decoder's refusal of it, where its payload is
+//! refused what is wrong with that, and of which packet of a polling body. [`aud_client::Transcript`] has the number of the first such record.
 //!
 //! ```
 //! use aud_refusals::no_packet_at;
 //!
 //! let found = no_packet_at(alloc, recs, number)?.ok_or("a packet")?;
-//! let words = found.refusal.words(); // "the first byte is no type of an Engine.IO packet"
+//! found.refusal.push_words(&mut words)?; // "the first byte is no type of an Engine.IO packet"
 //! let packet = found.packet; // Some(2): the second of a polling body
 //! ```
 #![tactic(auto)]
@@ -35,14 +35,18 @@ mod law;
 mod limit_help;
 mod member;
 mod members;
+mod no_json;
 mod no_packet;
 mod opened;
 mod packets;
+mod payload;
 mod pieces;
 mod record;
 mod tap_name;
+mod token_place;
 
 pub use help::refusal_help;
 pub use law::named_fields_are_refused;
-pub use no_packet::{NoPacket, Refusal};
+pub use no_json::NoJson;
+pub use no_packet::{NoPacket, PayloadFault, Refusal};
 pub use record::no_packet_at;

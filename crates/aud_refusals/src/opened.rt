@@ -13,7 +13,7 @@ use std::alloc::{AllocError, Global};
 
 /// The fields of JSON text, borrowed from it and from the scratch.
 #[tactic(auto, unfolding(aud_reader::specs::Record::json_of))]
-fn json<'a>(
+pub(crate) fn fields_of<'a>(
     alloc: Global,
     scratch: &'a mut Scratch,
     bytes: &'a [u8],
@@ -49,5 +49,5 @@ pub fn opened<'a>(
     if !is_tap_name(name) {
         return Ok(None);
     }
-    json(alloc, scratch, text)
+    fields_of(alloc, scratch, text)
 }

@@ -3,13 +3,14 @@ ghost use Rattle.std.specs.Prelude.{◌≡◌, ◌∷◌, [], IfOk, map};
 ghost use Rattle.aud_eio.specs.Body.{body_pieces};
 ghost use Rattle.aud_sio.specs.Message.{Bytes, Lent, at};
 ghost use Rattle.aud_sio.specs.Assembly.{Waits};
-ghost use Rattle.aud_refusals.specs.NoPacket.{alone, no_packet_at};
+ghost use Rattle.aud_refusals.specs.NoPacket.{alone, no_packet_at, refused_at};
 ghost use Rattle.aud_refusals.specs.Private.Fed.{refused_to, refusal_to, texts_refusal_to};
 
 use crate::before::assembler_after;
 use crate::begin::begin_of;
 use crate::no_packet::{NoPacket, Refusal};
 use crate::packets::{feed, socket_refusal};
+use crate::payload::told_at;
 use crate::pieces::{engine_refusal, pieces_of};
 use aud_eio::decode_binary;
 use aud_sio::Assembler;
@@ -18,12 +19,25 @@ use std::alloc::{AllocError, Global};
 
 /// Why the record with this number of a client's tap is no packet; none where nothing of it is refused. Records count
 /// from 0 after the header. Of the records before only those of the same connection are decoded.
+#[tactic(auto, using(std::proofs::lemmas::Option::gets))]
 pub fn no_packet_at(
     alloc: Global,
     recs: &[ClientRec],
     number: usize,
 ) -> Result<Option<NoPacket>, AllocError>
     ensures { IfOk result (λ found. found ≡ no_packet_at recs.now number) }
+{
+    let found = refused_at(alloc, recs, number)?;
+    told_at(alloc, recs.get(number), found)
+}
+
+/// What the decoder refuses of that record.
+fn refused_at(
+    alloc: Global,
+    recs: &[ClientRec],
+    number: usize,
+) -> Result<Option<NoPacket>, AllocError>
+    ensures { IfOk result (λ found. found ≡ refused_at recs.now number) }
 {
     let Some(rec) = recs.get(number) else {
         return Ok(None);

@@ -58,56 +58,40 @@ fn look_at<H: Abort + Threads + Wait + Clock + Sync>(
     }
 }
 
-/// Looks at what comes of each of these cases in each of these ways.
+/// Looks at what comes of each case of these tables in each of these ways.
 fn look_at_all<H: Abort + Threads + Wait + Clock + RandomSource + Sync>(
     rt: &H,
     alloc: Global,
     ways: &[Way],
-    cases: &[&str],
+    tables: &[&[&str]],
 ) -> Result<(), Fail> {
     let keys = RandomState::new(rt)?;
-    for case in cases {
-        look_at(rt, alloc, keys, ways, &case_of(alloc, case)?);
+    for cases in tables {
+        for case in *cases {
+            look_at(rt, alloc, keys, ways, &case_of(alloc, case)?);
+        }
     }
     Ok(())
 }
 
 #[test]
 fn each_mode(rt: HostRuntime) -> Result<(), Fail> {
-    look_at_all(&rt, rt.alloc(), &WAYS, each_mode_cases())
+    look_at_all(&rt, rt.alloc(), &WAYS, &[each_mode_cases()])
 }
 
 #[test]
-fn audits(rt: HostRuntime) -> Result<(), Fail> {
-    look_at_all(&rt, rt.alloc(), &WAYS, &AUDITS)
+fn audits_and_certificates(rt: HostRuntime) -> Result<(), Fail> {
+    let tables: [&[&str]; 3] = [&AUDITS, &CERTIFICATES, &VERSIONS];
+    look_at_all(&rt, rt.alloc(), &WAYS, &tables)
 }
 
 #[test]
-fn refused_lines(rt: HostRuntime) -> Result<(), Fail> {
-    look_at_all(&rt, rt.alloc(), &WAYS, &REFUSED)
-}
-
-#[test]
-fn limits(rt: HostRuntime) -> Result<(), Fail> {
-    look_at_all(&rt, rt.alloc(), &WAYS, &LIMITS)
-}
-
-#[test]
-fn lines_in_any_order(rt: HostRuntime) -> Result<(), Fail> {
-    look_at_all(&rt, rt.alloc(), &WAYS, &REORDERED)
-}
-
-#[test]
-fn certificates(rt: HostRuntime) -> Result<(), Fail> {
-    look_at_all(&rt, rt.alloc(), &WAYS, &CERTIFICATES)
-}
-
-#[test]
-fn both_versions(rt: HostRuntime) -> Result<(), Fail> {
-    look_at_all(&rt, rt.alloc(), &WAYS, &VERSIONS)
+fn lines_that_are_refused_and_lines_in_any_order(rt: HostRuntime) -> Result<(), Fail> {
+    let tables: [&[&str]; 3] = [&REFUSED, &LIMITS, &REORDERED];
+    look_at_all(&rt, rt.alloc(), &WAYS, &tables)
 }
 
 #[test]
 fn large_inputs(rt: HostRuntime) -> Result<(), Fail> {
-    look_at_all(&rt, rt.alloc(), &FEW_WAYS, &LARGE)
+    look_at_all(&rt, rt.alloc(), &FEW_WAYS, &[&LARGE])
 }

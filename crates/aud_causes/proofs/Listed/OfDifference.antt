@@ -1,7 +1,7 @@
 -- The causes of a difference between what was received and what was due have names of the fault's list.
 use Rattle.std.proofs.Common.{◌≡◌, ◌-◌, ◌&&◌, ◌++◌, ℕ, Bool, true, false, List, [], ◌∷◌, length, Option, Some, None, map, option_to_list, nat_eq, nat_le, nat_lt, not, refl, slice_get, take}
 use Rattle.std.specs.List.{list_all}
-use Rattle.std.specs.Option.{option_and_then, option_map, option_or}
+use Rattle.std.specs.Option.{option_and_then, option_or}
 use Rattle.aud_node.specs.Cluster.{Cluster}
 use Rattle.aud_node.specs.Stream.{Text, entry}
 use Rattle.aud_client.specs.StaySeen.{StaySeen}
@@ -24,7 +24,7 @@ use Rattle.aud_causes.specs.declared.cause.Cause.TheVariants as cause
 use Rattle.aud_causes.specs.declared.facts.Facts.{Facts}
 use Rattle.aud_causes.specs.declared.facts.Replay.{Replay}
 use Rattle.aud_causes.specs.AtBreak.{first_came, first_taken, is_by_rooms_at_break, rooms_at_break}
-use Rattle.aud_causes.specs.Behind.{behind, behind_at, first_behind, first_of, last_of, node_behind}
+use Rattle.aud_causes.specs.Behind.{behind, behind_at, first_of, last_of, node_behind}
 use Rattle.aud_causes.specs.Bodies.{are_equal_bodies, body_before, body_twice, equal_bodies, is_one_body, last_record, places_at, record_of}
 use Rattle.aud_causes.specs.Changed.{fits_with, fits_with_any}
 use Rattle.aud_causes.specs.Delivery.{doubled_in_replay, doubled_live, is_in_replay, is_live, is_outside, is_replayed, is_taken_live, is_this, lost_live, replay_includes_offset, sent_again, skipped_in_window, stale_offset, swapped_in_replay, swapped_live}
@@ -41,14 +41,14 @@ use Rattle.aud_causes.proofs.Listed.Each.{OfSome, is_listed, of_both, of_choice,
 module _ (p : Cause → Bool) where
   behind_listed : ((broke back : RecordPlace) (high low : ℕ) → p (cause.NodeBehindBreak broke back high low) ≡ true) → (c : Cluster) (turns : List TurnSeen) (f : Facts) → OfSome p (node_behind c turns f)
   behind_listed has c turns f =
-      let number = first_behind f.parted.position 0 0 turns in
-      of_choice p (nat_lt f.earlier f.later) (option_and_then (behind_at c turns) number) None (of_then p (behind_at c turns) at number) tt
-    where
-      at : (number : ℕ) → OfSome p (behind_at c turns number)
-      at number =
-          of_then p (λ before. option_map (behind c before) (slice_get turns number))
-          (λ before. of_map p (behind c before) (λ t. has (last_of c before) (first_of c t) before.high t.low) (slice_get turns number))
-          (slice_get turns (number - 1))
+      of_choice p (f.matched && nat_lt f.earlier f.later) (behind_at c turns f.parted.position f.later) None
+      (of_then p (λ before. option_and_then (behind c f.parted.position before) (slice_get turns f.later))
+      (λ before.
+      of_then p (behind c f.parted.position before)
+      (λ t. of_if p (nat_lt t.low f.parted.position && nat_le f.parted.position before.high) (cause.NodeBehindBreak (last_of c before) (first_of c t) before.high t.low) (has (last_of c before) (first_of c t) before.high t.low))
+      (slice_get turns f.later))
+      (slice_get turns (f.later - 1)))
+      tt
 
   rooms_listed : ((stay after low : ℕ) → p (cause.RoomsAtBreak stay after low) ≡ true) → (c : Cluster) (who : Who) (turns : List Turn) (stays : List StaySeen) (f : Facts)
       → OfSome p (rooms_at_break c who turns stays f)

@@ -7,7 +7,7 @@ ghost use Rattle.aud_explanation.specs.JsonValue.{text_or_null};
 ghost use Rattle.aud_explanation.specs.JsonRefused.{missed_data, all_missed_data, missed_left_data, reply_data, refused_data, with_refused};
 
 use crate::json_line::row::row_value;
-use crate::json_line::value::text_or_null;
+use crate::json_line::value::{text_or_null, texts};
 use crate::long::{all_shown, left_out};
 use crate::refused::{Missed, RefusedRecovery};
 use aud_input::InputFile;
@@ -70,7 +70,7 @@ fn reply_value(
     }
 }
 
-/// `{"ask":..,"instead":..,"missed":..,"missed_left":..,"reply":..}`.
+/// `{"ask":..,"has_cause":..,"instead":..,"missed":..,"missed_left":..,"refuted":[..],"reply":..}`.
 fn refused_value(
     alloc: Global,
     files: &[InputFile],
@@ -80,11 +80,13 @@ fn refused_value(
     ensures { IfOk result (λ v. view v ≡ refused_data files.now pid.now refused.now) }
 {
     let ask = row_value(alloc, files, pid, &refused.ask)?;
+    let has_cause = refused.has_cause;
     let instead = text_or_null(alloc, refused.instead)?;
     let missed = all_missed_value(alloc, refused.missed)?;
     let missed_left = missed_left_value(refused.missed);
+    let refuted = Value::Array(texts(alloc, refused.refuted)?);
     let reply = reply_value(alloc, files, pid, refused.reply)?;
-    json!(in alloc; {"ask": ask, "instead": instead, "missed": missed, "missed_left": missed_left, "reply": reply})
+    json!(in alloc; {"ask": ask, "has_cause": has_cause, "instead": instead, "missed": missed, "missed_left": missed_left, "refuted": refuted, "reply": reply})
 }
 
 fn refused_values(

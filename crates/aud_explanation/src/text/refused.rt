@@ -2,7 +2,7 @@
 ghost use Rattle.std.specs.Prelude.{◌≡◌, ◌++◌, OnOk, flat_map, length, string_bytes};
 ghost use Rattle.std.specs.Option.{option_copied};
 ghost use Rattle.aud_explanation.specs.Evidence.{row_text};
-ghost use Rattle.aud_explanation.specs.RefusedText.{got_session, got_words, instead_words, count_words, head_line, head_text, reply_text, missed_line, missed_text, all_missed_text, refused_text, each_refused_text, all_refused_text};
+ghost use Rattle.aud_explanation.specs.RefusedText.{got_session, got_words, instead_words, count_words, head_line, head_text, reply_text, missed_line, missed_text, all_missed_text, refused_text, unexplained_text, each_refused_text, all_refused_text};
 
 use crate::long::{first_shown, last_shown, left_out, push_more};
 use crate::name::{Names, push_name};
@@ -130,7 +130,20 @@ fn push_all_missed(
     }
 }
 
-/// Puts a refused recovery at the end: what the client got instead, the ask and the reply, and what it missed.
+/// Puts at the end that no known cause of the refusal holds, where none is told.
+fn push_unexplained(out: &mut String, has_cause: bool) -> Result<(), AllocError>
+    ensures { OnOk result (string_bytes out.new
+        ≡ string_bytes out.old ++ unexplained_text has_cause) }
+{
+    if has_cause {
+        Ok(())
+    } else {
+        out.push_str("no known cause of the refusal holds\n")
+    }
+}
+
+/// Puts a refused recovery at the end: what the client got instead, the ask and the reply, what it missed, and whether a
+/// cause is known.
 fn push_one(
     alloc: Global,
     out: &mut String,
@@ -146,7 +159,8 @@ fn push_one(
     push_head(alloc, out, refused)?;
     push_row(alloc, out, files, pid, verdict, width, &refused.ask)?;
     push_reply(alloc, out, files, pid, verdict, width, refused.reply)?;
-    push_all_missed(alloc, out, refused.missed)
+    push_all_missed(alloc, out, refused.missed)?;
+    push_unexplained(out, refused.has_cause)
 }
 
 /// Puts these refused recoveries of the session with this pid at the end.

@@ -19,7 +19,7 @@ use Rattle.aud_node.specs.Cursors.{cursor_at}
 use Rattle.aud_rows.specs.Rows.{row_of, node_row}
 use Rattle.aud_rows.specs.Seen.{RowSeen, SaysSeen}
 use Rattle.aud_session_facts.specs.RowLists.{row_and}
-use Rattle.aud_findings.specs.ClientShown.{is_fault}
+use Rattle.aud_explanation.specs.LongRows.{is_fault}
 use Rattle.aud_laws.specs.FaultRows.{KnowsEachRecord, has_fault_row}
 
 -- ---- a row among others

@@ -1,5 +1,6 @@
 -- The record at which a fault shows is among the rows that are written of it.
-use Rattle.std.proofs.Common.{◌≡◌, ◌≤◌, ℕ, Bool, true, false, List, refl, sym, ap, ◌∙◌, arith, Option, Some, None, is_some}
+use Rattle.std.proofs.Common.{◌≡◌, ◌≤◌, ◌||◌, ◌∷◌, [], ℕ, Bool, true, false, List, map, refl, sym, ap, ◌∙◌, arith, Option, Some, None, is_some}
+use Rattle.std.specs.List.{list_any}
 use Rattle.std.proofs.lemmas.Bool.{true≢false}
 use Rattle.aud_node.specs.Cluster.{Cluster}
 use Rattle.aud_node.specs.Stream.{Text}
@@ -10,7 +11,10 @@ use Rattle.aud_session_facts.specs.declared.account.Account.{Account}
 use Rattle.aud_session_facts.specs.Account.{IsAccountOf, is_of_received}
 use Rattle.aud_verdict.specs.Faults.{HoldsFirst, verdict_rank}
 use Rattle.aud_input.specs.TapLines.{TapLines}
-use Rattle.aud_rows.specs.Seen.{RowSeen}
+use Rattle.aud_rows.specs.declared.row.Row.{Row}
+use Rattle.aud_rows.specs.Seen.{RowSeen, row_seen}
+use Rattle.aud_explanation.specs.LongRows.{is_fault_row, rows_shown}
+use Rattle.aud_explanation.proofs.RowsShown.{fault_row_shown}
 use Rattle.aud_findings.specs.Evidence.{IsFaultShown, IsOfClient, IsOfSession}
 use Rattle.aud_explain_app.specs.Explained.{IsAccountFound}
 use Rattle.aud_laws.specs.FaultRows.{AreWrittenOf, HasReceived, KnowsEachRecord, has_fault_row, shows_at_record}
@@ -79,12 +83,21 @@ module _ (c : Cluster) (lines : List TapLines) (known : KnowsEachRecord c.taps l
   row_shown law (Window conn) k holds of is at = of_received law (Window conn) k holds refl (of (omega arith)) is
   row_shown law (Tail count) k holds of is at = absurd (true≢false (sym at))
 
+-- of long evidence it is among those that are written
+written : (rows : List Row) → has_fault_row (map row_seen rows) ≡ true → has_fault_row (map row_seen (rows_shown rows)) ≡ true
+written rows has = seen_any (rows_shown rows) ∙ fault_row_shown rows (sym (seen_any rows) ∙ has)
+  where
+    seen_any : (rows : List Row) → has_fault_row (map row_seen rows) ≡ list_any is_fault_row rows
+    seen_any [] = refl
+    seen_any (row ∷ rows) = ap (λ b. is_fault_row row || b) (seen_any rows)
+
 pub fault_row_is_there : VerdictIsFound → (c : Cluster) (lines : List TapLines) (whole : Bool) (pid : Text) (fault : Fault) (rows : List RowSeen)
     → AreWrittenOf c lines whole pid fault rows → shows_at_record fault ≡ true → has_fault_row rows ≡ true
 fault_row_is_there law c lines whole pid fault rows of at =
     let told = of.is_told in
     ap has_fault_row of.are
-    ∙ row_shown c lines of.known whole pid _ law fault (is_some told.account) of.verdict (λ later. account_known c whole pid fault of.verdict later told.account told.is_account) told.evidence at
+    ∙ written of.told.outcome.evidence.items
+    (row_shown c lines of.known whole pid _ law fault (is_some told.account) of.verdict (λ later. account_known c whole pid fault of.verdict later told.account told.is_account) told.evidence at)
 
 pub tail_row_is_there : (c : Cluster) (lines : List TapLines) (whole : Bool) (pid : Text) (count : ℕ) (rows : List RowSeen) → AreWrittenOf c lines whole pid (Tail count) rows → HasReceived c pid
     → has_fault_row rows ≡ true
@@ -92,4 +105,5 @@ tail_row_is_there c lines whole pid count rows of had =
     let told = of.is_told in
     let on = (account_known c whole pid (Tail count) of.verdict (omega arith) told.account told.is_account).0 in
     ap has_fault_row of.are
-    ∙ tail_shown c lines of.known whole pid count _ of.verdict had (of_session c lines of.known whole pid _ (Tail count) (is_some told.account) on told.evidence)
+    ∙ written of.told.outcome.evidence.items
+    (tail_shown c lines of.known whole pid count _ of.verdict had (of_session c lines of.known whole pid _ (Tail count) (is_some told.account) on told.evidence))

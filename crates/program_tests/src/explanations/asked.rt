@@ -220,7 +220,7 @@ static CASES: [&str; 13] = [
     r#"explain --json
 @REFUSED
 -> Ok(AllYes)
-{"alike":[],"also":[],"also_left":0,"at_frame":null,"causes":[{"id":"unknown-offset","lines":[28],"of":"refused","of_line":28,"state":"certain","sure":true,"todo":"take as offset only what a server that recovers put at the end of an event.","why":"The client asked to go on after an offset that no entry of the stream has."}],"causes_left":0,"class":"delivery","client":"c1","conn":null,"due":1,"events":[{"after":null,"from":null,"happens":"reply","lines":[22,22],"to":null},{"after":null,"from":1,"happens":"got","lines":[23,23],"to":1},{"after":null,"from":null,"happens":"lost","lines":[25,25],"to":null},{"after":null,"from":null,"happens":"asks","lines":[28,28],"to":null},{"after":null,"from":null,"happens":"refused","lines":[29,29],"to":null}],"events_left":0,"evidence":[],"evidence_left":0,"fault":null,"got":1,"nsp":"/","off":null,"pid":"YTMVrS9zt7pTBskJAAAC","refused":[{"ask":{"file":null,"file_line":null,"line":28,"of":null,"role":"ask","says":"conn 2 asks YTMVrS9zt7pTBskJAAAC after hello","tap":"c1"},"instead":"hgDbD53qREGmUUTXAAAC","missed":[{"off":"1795330308828-0","position":2}],"missed_left":0,"reply":{"file":null,"file_line":null,"line":29,"of":null,"role":"reply","says":"conn 2 reply, sid rk3B-e0cNO1Nmx7tAAAB, pid hgDbD53qREGmUUTXAAAC","tap":"c1"}}],"refused_left":0,"refuted":[],"tail":0,"turns":[{"begin":"open","end":"break","high":1,"lines":[7,9],"low":0,"node":"a","took":[1,1],"turn":0}],"turns_left":0,"v":1,"verdict":"yes"}
+{"alike":[],"also":[],"also_left":0,"at_frame":null,"causes":[{"id":"unknown-offset","lines":[28],"of":"refused","of_line":28,"state":"certain","sure":true,"todo":"take as offset only what a server that recovers put at the end of an event.","why":"The client asked to go on after an offset that no entry of the stream has."}],"causes_left":0,"class":"delivery","client":"c1","conn":null,"due":1,"events":[{"after":null,"from":null,"happens":"reply","lines":[22,22],"to":null},{"after":null,"from":1,"happens":"got","lines":[23,23],"to":1},{"after":null,"from":null,"happens":"lost","lines":[25,25],"to":null},{"after":null,"from":null,"happens":"asks","lines":[28,28],"to":null},{"after":null,"from":null,"happens":"refused","lines":[29,29],"to":null}],"events_left":0,"evidence":[],"evidence_left":0,"fault":null,"got":1,"nsp":"/","off":null,"pid":"YTMVrS9zt7pTBskJAAAC","refused":[{"ask":{"file":null,"file_line":null,"line":28,"of":null,"role":"ask","says":"conn 2 asks YTMVrS9zt7pTBskJAAAC after hello","tap":"c1"},"has_cause":true,"instead":"hgDbD53qREGmUUTXAAAC","missed":[{"off":"1795330308828-0","position":2}],"missed_left":0,"refuted":["no-offset","session-over","node-ended-in-turn","never-broken","asked-too-early"],"reply":{"file":null,"file_line":null,"line":29,"of":null,"role":"reply","says":"conn 2 reply, sid rk3B-e0cNO1Nmx7tAAAB, pid hgDbD53qREGmUUTXAAAC","tap":"c1"}}],"refused_left":0,"refuted":[],"tail":0,"turns":[{"begin":"open","end":"break","high":1,"lines":[7,9],"low":0,"node":"a","took":[1,1],"turn":0}],"turns_left":0,"v":1,"verdict":"yes"}
 {"summary":*"#,
     r#"explain
 @TOO_EARLY
@@ -256,6 +256,7 @@ refused recovery: got session Q, missed 2
       28 c1  conn 2 reply, sid s2, pid Q
     missed entry 2 o2
     missed entry 6 o6
+no known cause of the refusal holds
 refused recovery: got no session, missed: not known
       30 c1  conn 3 asks P, no offset
 cause no-offset (certain, line 30, of the ask on line 30): The client asked for the session and gave
@@ -273,6 +274,7 @@ no one client, turns 0, delivery not judged
 refused recovery: got session Q, missed: not known
       32 c1  conn 4 asks N after o1
       33 c1  conn 4 reply, sid s2, pid Q
+no known cause of the refusal holds
 cause open-not-recorded (fits): No log has a record of the session, though a node is tapped: its
         `open` may be missing.
 do: write an `open` when the session opens, unbuffered; look at how logs are rotated.
@@ -380,6 +382,7 @@ client c1, namespace /, connection 2, turns 2, delivery not judged
     client  13 reply  14 got 1  15 lost  17 asks after 1  18 got 2  19 lost
 refused recovery: got no session, missed: not known
       17 c1  conn 2 asks P after o1
+no known cause of the refusal holds
 cause cut-before-reply (certain, line 17): The client asked for a session, and events came, but no
         reply did.
 do: nothing, where the client came back; else look at why the connection was cut.
@@ -404,7 +407,8 @@ client c1, namespace /, connection 2, turns 3, delivery not judged
     turn 0  a  6 open, cursor 0 == take 1 == 8 break, cursor 1
     turn 1  a  10 back, cursor 2 == 20 break, cursor 2
     turn 2  a  21 back, cursor 2 == 25 gone, cursor 2
-    client  13 reply  14 got 1  15 lost  23 asks after 2  24 reply
+    client  13 reply  14 got 1  15 lost  17 asks after 1  18 got 2  19 lost  23 asks after 2
+        24 reply
 cause cut-before-reply (certain, line 17): The client asked for a session, and events came, but no
         reply did.
 do: nothing, where the client came back; else look at why the connection was cut.
@@ -429,6 +433,7 @@ refused recovery: got session R, missed 1
       27 c1  conn 3 asks P after o1
       28 c1  conn 3 reply, sid s3, pid R
     missed entry 3 o3
+no known cause of the refusal holds
 
 sessions: 3, yes: 3, no: 0
 sessions that no client named: 0

@@ -3,8 +3,7 @@ use aud_explain_app::{
     CausesTold, Classes, Entries, Faults, Input, Recoveries, Summary, Tails, summary_json,
     summary_text,
 };
-use std::alloc::Global;
-use std::process::Abort;
+use std::alloc::{AllocError, Global};
 use std::test::Fail;
 
 const FIGURES: Summary = Summary {
@@ -71,19 +70,22 @@ lines: 30000, bytes: 2500000, seconds: 2
 const FIGURES_JSON: &str =
     r#"{"summary":{"bytes":2500000,"causes":{"after-disconnect":0,"altered":0,"another-encoder":0,"another-event":0,"asked-too-early":0,"attachments-reordered":0,"before-birth":0,"body-came-twice":0,"cleared-after-break":0,"client-tap-has-no-packets":0,"cut-before-reply":0,"doubled-in-replay":0,"doubled-live":0,"entries-skipped-by-node":0,"entry-taken-again":0,"extra-live":9,"frame-not-recorded":0,"join-missing":0,"late-leave":0,"leave-missing":0,"log-ended-early":0,"lost-live":0,"missing-back":0,"missing-break":1007,"namespace-differs":0,"never-broken":0,"no-client-tap":0,"no-offset":1,"no-start":0,"node-behind-break":0,"node-ended-in-turn":0,"node-not-tapped":0,"not-a-packet":0,"not-in-stream":0,"offset-of-another-session":0,"open-not-recorded":0,"opened-twice":0,"out-after-answer":0,"recovered-twice":0,"recovery-not-recorded":0,"replay-includes-offset":0,"reply-missing":0,"reply-without-pid":0,"restarted-in-old-log":0,"rooms-at-break":0,"second-connect":0,"sent-again-after-replay":0,"session-over":0,"sid-differs":0,"skipped-in-window":0,"stale-offset":0,"swapped-in-replay":0,"swapped-live":0,"tap-began-late":0,"turn-not-stored":0,"two-taps":0,"unknown-offset":0},"class":{"delivery":31,"packets":12,"recording":12},"entries":{"all":1200,"recoverable":1100},"fault":{"CHAIN":1,"CLIENT":0,"CONTENT":10,"DOUBLED":8,"EXTRA":5,"FRAME":8,"LOST":4,"NAMES":3,"NOLOG":2,"ORDER":6,"ORPHAN":4,"SWAPPED":3,"TAIL":1,"WINDOW":0},"lines":30000,"no":55,"no_known_cause":6,"recoveries":{"asked":540,"granted":533,"refused":7},"seconds":2,"sessions":268,"tail":{"events":28,"sessions":5},"unobserved":1,"yes":213},"v":1}"#;
 
-/// What explanations told of causes: how many other sessions each is of, whether no known cause holds, and the names.
-static TOLD: [(usize, bool, &[&str]); 4] = [
+/// What an explanation told of causes: how many other sessions it is of, whether no known cause holds, and the names.
+type Told = (usize, bool, &'static [&'static str]);
+
+static TOLD: [Told; 4] = [
     (8, false, &["missing-break", "extra-live", "missing-break"]),
     (997, false, &["missing-break"]),
     (0, true, &["no-offset", "no-offset"]),
     (4, true, &[]),
 ];
 
-#[test]
-fn figures(rt: HostRuntime) -> Result<(), Fail> {
-    let alloc = rt.alloc();
+/// More sessions than a count holds: it is the greatest number of 64 bits.
+static TOO_MANY: [Told; 2] = [(usize::MAX, true, &[]), (usize::MAX, true, &[])];
+
+fn told(alloc: Global, rows: &[Told]) -> Result<Vec<CausesTold>, AllocError> {
     let mut told = Vec::new(alloc);
-    for (others, is_unknown, names) in &TOLD {
+    for (others, is_unknown, names) in rows {
         let mut ids: Vec<&'static str> = Vec::new(alloc);
         ids.extend_from_slice(*names)?;
         told.push(CausesTold {
@@ -92,37 +94,18 @@ fn figures(rt: HostRuntime) -> Result<(), Fail> {
             others: *others,
         })?;
     }
-    assert_written(&rt, alloc, &FIGURES, &told, FIGURES_TEXT, FIGURES_JSON)
+    Ok(told)
 }
 
-/// A count that is too large is the greatest number of 64 bits.
 #[test]
-fn more_sessions_than_a_count_holds(rt: HostRuntime) -> Result<(), Fail> {
+fn figures(rt: HostRuntime) -> Result<(), Fail> {
     let alloc = rt.alloc();
-    let mut told = Vec::new(alloc);
-    for _ in 0..2 {
-        told.push(CausesTold {
-            ids: Vec::new(alloc),
-            is_unknown: true,
-            others: usize::MAX,
-        })?;
-    }
-    let text = summary_text(alloc, &FIGURES, &told)?;
+    let few = told(alloc, &TOLD)?;
+    assert_eq!(rt; summary_text(alloc, &FIGURES, &few)?.as_str(), FIGURES_TEXT);
+    assert_eq!(rt; summary_json(alloc, &FIGURES, &few)?.as_str(), FIGURES_JSON);
+    let many = told(alloc, &TOO_MANY)?;
+    let text = summary_text(alloc, &FIGURES, &many)?;
     let line = "\n  no known cause: 18446744073709551615\n";
     assert!(rt; text.as_str().contains(line), "{text}");
-    Ok(())
-}
-
-/// Asserts that this is the text of the figures, with what was told of causes, and this their JSON.
-fn assert_written(
-    rt: &impl Abort,
-    alloc: Global,
-    summary: &Summary,
-    told: &[CausesTold],
-    text: &str,
-    json: &str,
-) -> Result<(), Fail> {
-    assert_eq!(rt; summary_text(alloc, summary, told)?.as_str(), text);
-    assert_eq!(rt; summary_json(alloc, summary, told)?.as_str(), json);
     Ok(())
 }

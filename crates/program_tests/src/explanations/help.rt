@@ -46,7 +46,7 @@ This line does not end with }: its end may be missing.
 "#,
     r#"NotJson
 a {"k":"open" "pid":"P"} 
-What follows the first blank begins with { and ends with }, but is no JSON (RFC 8259) in between, or has half a surrogate pair or a number that no 64-bit float holds.
+What follows the first blank is no JSON at byte 13 of it, or at a comma or colon in front of that.
 "#,
     r#"Field
 a []
@@ -168,32 +168,53 @@ st {"k":"other","off":"1-0"}
 An earlier entry of the stream has the offset 1-0.
 "#,
     r#"NotJson
-a {"k":[[[[[[[[[[[[[[[[[[[[[[[[[[[[[[[[[[[[[[[[[[[[[[[[[[[[[[[[[[[[[[[[[[[[[[[[[[[[[[[[[[[[[[[[[[[[[[[[[[[[[[[[[[[[[[[[[[[[[[[[[[[[[[[
-This line nests 128 deep; at most 127 is read.
+a {"k":[[[[[[[[[[[[[[[[[[[[[[[[[[[[[[[[[[[[[[[[[[[[[[[[[[[[[[[[[[[[[[[[[[[[[[[[[[[[[[[[[[[[[[[[[[[[[[[[[[[[[[[[[[[[[[[[[[[[[[[[[[[[[[[]]]]]]]]]]]]]]]]]]]]]]]]]]]]]]]]]]]]]]]]]]]]]]]]]]]]]]]]]]]]]]]]]]]]]]]]]]]]]]]]]]]]]]]]]]]]]]]]]]]]]]]]]]]]]]]]]]]]]]]]]]]]]]]}
+What follows the first blank nests 128 deep; at most 127 is read.
 "#,
 ];
 
-/// Lines that no tap wrote.
-static NO_LINES: [(&[u8], &str); 5] = [
+/// Bytes that no tap wrote, why they are refused as a line, and what is said of them.
+static BYTES: [(&[u8], InputCode, &str); 6] = [
     (
         b"\x1f\x8b\x08\x00",
-        "This is compressed by gzip: gzip -dc gives the lines.\n",
+        InputCode::NoTapName,
+        "A line begins with the name of its tap, 1 to 32 bytes of A-Za-z0-9_.-, and a blank.
+This is compressed by gzip: gzip -dc gives the lines.
+",
     ),
     (
         b"\xef\xbb\xbfst {\"k\":\"tap\",\"v\":1,\"of\":\"stream\"}",
-        "This line begins with a byte order mark, which no bundle has: remove it.\n",
+        InputCode::NoTapName,
+        "A line begins with the name of its tap, 1 to 32 bytes of A-Za-z0-9_.-, and a blank.
+This line begins with a byte order mark, which no bundle has: remove it.
+",
     ),
     (
         b"\xff\xfes\x00t\x00",
-        "This is UTF-16: a bundle is UTF-8.\n",
+        InputCode::NoTapName,
+        "A line begins with the name of its tap, 1 to 32 bytes of A-Za-z0-9_.-, and a blank.
+This is UTF-16: a bundle is UTF-8.
+",
     ),
     (
         b"\xfe\xff\x00s\x00t",
-        "This is UTF-16: a bundle is UTF-8.\n",
+        InputCode::NoTapName,
+        "A line begins with the name of its tap, 1 to 32 bytes of A-Za-z0-9_.-, and a blank.
+This is UTF-16: a bundle is UTF-8.
+",
     ),
     (
         b"{\"k\":\"start\",\"off\":null}",
-        "The name of the tap is missing before this record.\n",
+        InputCode::NoTapName,
+        "A line begins with the name of its tap, 1 to 32 bytes of A-Za-z0-9_.-, and a blank.
+The name of the tap is missing before this record.
+",
+    ),
+    // UTF-8 up to its byte 8
+    (
+        b"a {\"k\":\"\xff\"}",
+        InputCode::NotJson,
+        "What follows the first blank is UTF-8 up to byte 8 of this line, and not from there on.\n",
     ),
 ];
 
@@ -229,34 +250,21 @@ fn assert_help(rt: &impl Abort, alloc: Global, rows: &[&str]) -> Result<(), Fail
     Ok(())
 }
 
-/// Asserts that the help on each of these lines, none of which begins with a name, ends so.
-fn assert_ends(rt: &impl Abort, alloc: Global, lines: &[(&[u8], &str)]) -> Result<(), Fail> {
-    for &(line, end) in lines {
-        let said = refusal_help(alloc, line, InputCode::NoTapName, None)?;
-        assert!(rt; said.ends_with(end), "{said}");
+/// Asserts that these bytes have their help.
+fn assert_help_on_bytes(
+    rt: &impl Abort,
+    alloc: Global,
+    rows: &[(&[u8], InputCode, &str)],
+) -> Result<(), Fail> {
+    for &(bytes, code, help) in rows {
+        let said = refusal_help(alloc, bytes, code, None)?;
+        assert_eq!(rt; said.as_str(), help);
     }
     Ok(())
 }
 
 #[test]
-fn lines_that_no_tap_wrote_are_known(rt: HostRuntime) -> Result<(), Fail> {
-    assert_ends(&rt, rt.alloc(), &NO_LINES)
-}
-
-#[test]
-fn lines_have_help(rt: HostRuntime) -> Result<(), Fail> {
-    assert_help(&rt, rt.alloc(), &LINES)
-}
-
-/// It is UTF-8 up to its byte 8.
-const NO_UTF8: &[u8] = b"a {\"k\":\"\xff\"}";
-
-const HELP_ON_NO_UTF8: &str =
-    "What follows the first blank is UTF-8 up to byte 8 of this line, and not from there on.\n";
-
-#[test]
-fn a_line_that_is_no_utf8_has_help(rt: HostRuntime) -> Result<(), Fail> {
-    let said = refusal_help(rt.alloc(), NO_UTF8, InputCode::NotJson, None)?;
-    assert_eq!(rt; said.as_str(), HELP_ON_NO_UTF8);
-    Ok(())
+fn refused_lines_have_help(rt: HostRuntime) -> Result<(), Fail> {
+    assert_help(&rt, rt.alloc(), &LINES)?;
+    assert_help_on_bytes(&rt, rt.alloc(), &BYTES)
 }

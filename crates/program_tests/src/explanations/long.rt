@@ -41,6 +41,7 @@ fn events_before(alloc: Global, past: u64) -> Result<Vec<ClientEvent>, AllocErro
 /// What is told of a session of which only these are known.
 fn told<'s>(
     verdict: &'s Verdict,
+    evidence: &'s [Row<'s>],
     events: &'s [ClientEvent],
     turns: &'s [TurnShown<'s>],
     refused: &'s [RefusedRecovery<'s, 's>],
@@ -51,7 +52,7 @@ fn told<'s>(
         client: None,
         account: None,
         turns,
-        evidence: &[],
+        evidence,
         also: &[],
         also_left: 0,
         alike: &[],
@@ -125,7 +126,7 @@ fn what_happened_to_a_client(rt: HostRuntime) -> Result<(), Fail> {
     let verdict = VERDICT;
     for case in &CASES {
         let events = events_before(alloc, case.0)?;
-        let explanation = told(&verdict, events.as_slice(), &[], &[]);
+        let explanation = told(&verdict, &[], events.as_slice(), &[], &[]);
         let mut text = String::new(alloc);
         push_text(alloc, &mut text, &[], &explanation)?;
         let json = explanation_json(alloc, &[], &explanation)?;
@@ -223,12 +224,12 @@ fn push_missed_items(out: &mut String, from: u64, past: u64) -> Result<(), Alloc
 fn lists_json(alloc: Global) -> Result<String, AllocError> {
     let mut out = String::from_str(
         alloc,
-        r#"{"alike":[],"also":[],"also_left":0,"at_frame":null,"causes":[],"causes_left":0,"class":"delivery","client":null,"conn":null,"due":null,"events":[],"events_left":0,"evidence":[],"evidence_left":0,"fault":null,"got":null,"nsp":null,"off":null,"pid":"P","refused":[{"ask":{"file":null,"file_line":null,"line":9,"of":null,"role":"ask","says":"conn 1 asks P, no offset","tap":"c"},"instead":null,"missed":["#,
+        r#"{"alike":[],"also":[],"also_left":0,"at_frame":null,"causes":[],"causes_left":0,"class":"delivery","client":null,"conn":null,"due":null,"events":[],"events_left":0,"evidence":[],"evidence_left":0,"fault":null,"got":null,"nsp":null,"off":null,"pid":"P","refused":[{"ask":{"file":null,"file_line":null,"line":9,"of":null,"role":"ask","says":"conn 1 asks P, no offset","tap":"c"},"has_cause":true,"instead":null,"missed":["#,
     )?;
     push_missed_items(&mut out, 0, 100)?;
     push_missed_items(&mut out, 900, 1000)?;
     out.push_str(
-        r#"],"missed_left":800,"reply":null}],"refused_left":0,"refuted":[],"tail":null,"turns":["#,
+        r#"],"missed_left":800,"refuted":["no-offset"],"reply":null}],"refused_left":0,"refuted":[],"tail":null,"turns":["#,
     )?;
     push_turn_items(&mut out, 0, 100)?;
     push_turn_items(&mut out, 101, 201)?;
@@ -256,14 +257,78 @@ fn turns_and_what_was_missed(rt: HostRuntime) -> Result<(), Fail> {
         reply: None,
         instead: None,
         missed: Some(missed.as_slice()),
+        has_cause: true,
+        refuted: &["no-offset"],
     }];
     let verdict = VERDICT;
-    let explanation = told(&verdict, &[], turns.as_slice(), &refused);
+    let explanation = told(&verdict, &[], &[], turns.as_slice(), &refused);
     let mut text = String::new(alloc);
     push_text(alloc, &mut text, &[], &explanation)?;
     let json = explanation_json(alloc, &[], &explanation)?;
     let (wanted_text, wanted_json) = (lists_text(alloc)?, lists_json(alloc)?);
     assert_eq!(rt; text.as_str(), wanted_text.as_str());
     assert_eq!(rt; json.as_str(), wanted_json.as_str());
+    Ok(())
+}
+
+/// What the rows of the evidence are shown for: those of the middle are all earlier records, and records at which the
+/// fault shows.
+fn role_of(line: u64) -> Role {
+    if line < 1101 || line > 1200 {
+        Role::Later
+    } else if line < 1151 {
+        Role::Earlier
+    } else {
+        Role::Fault
+    }
+}
+
+/// 300 rows, one on each line from line 1001 on.
+fn all_rows(alloc: Global) -> Result<Vec<Row<'static>>, AllocError> {
+    let mut rows = Vec::new(alloc);
+    for line in 1001..1301 {
+        rows.push(Row {
+            line,
+            tap: "a",
+            session: None,
+            says: Says::Gone,
+            role: role_of(line),
+        })?;
+    }
+    Ok(rows)
+}
+
+/// Adds these rows.
+fn push_rows(out: &mut String, from: u64, past: u64) -> Result<(), AllocError> {
+    for line in from..past {
+        writeln!(out, "    {line} a    gone  later")?;
+    }
+    Ok(())
+}
+
+/// The text that is to be written of the rows.
+fn rows_text(alloc: Global) -> Result<String, AllocError> {
+    let mut out = String::from_str(
+        alloc,
+        "yes P got=1 tail=0 turns=1\nno one client, turns 0, delivery not judged\n    line tap  record\n",
+    )?;
+    push_rows(&mut out, 1001, 1101)?;
+    out.push_str("    .. 98 more ..\n")?;
+    out.push_str("    1101 a    gone  earlier\n")?;
+    out.push_str("    1151 a    gone  <- here\n")?;
+    push_rows(&mut out, 1201, 1301)?;
+    Ok(out)
+}
+
+#[test]
+fn rows_of_evidence(rt: HostRuntime) -> Result<(), Fail> {
+    let alloc = rt.alloc();
+    let rows = all_rows(alloc)?;
+    let verdict = VERDICT;
+    let explanation = told(&verdict, rows.as_slice(), &[], &[], &[]);
+    let mut text = String::new(alloc);
+    push_text(alloc, &mut text, &[], &explanation)?;
+    let wanted = rows_text(alloc)?;
+    assert_eq!(rt; text.as_str(), wanted.as_str());
     Ok(())
 }

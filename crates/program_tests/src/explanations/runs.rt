@@ -41,8 +41,9 @@ a {"k":"join","pid":"P"}
     "CUT\na {\"k\":\"tap\",\"v\":1,\"of\":\"node\"}\r\na {\"k\":\"sta",
 ];
 
-/// Which sessions are shown, and what makes status 1.
-static CHOICES: [&str; 16] = [
+/// What is asked, and what is told.
+static CASES: [&str; 37] = [
+    // which sessions are shown, and what makes status 1;
     r#"explain
 @YES
 -> Ok(AllYes)
@@ -119,15 +120,7 @@ sessions: *"#,
 @BEHIND
 -> Ok(SomeNo)
 sessions: *"#,
-];
-
-#[test]
-fn sessions_that_are_shown_and_the_status(rt: HostRuntime) -> Result<(), Fail> {
-    assert_cases(&rt, rt.alloc(), &TEXTS, &CHOICES)
-}
-
-/// Records by their numbers.
-static RECORDS: [&str; 10] = [
+    // records by their numbers;
     r#"explain --record a 3 0 --record c1 1
 @YES
 -> Ok(AllYes)
@@ -174,15 +167,7 @@ The field room is missing: it has to be a text.
 @YES
 -> Err(NoRecord { number: 0 })
 "#,
-];
-
-#[test]
-fn records_by_their_numbers(rt: HostRuntime) -> Result<(), Fail> {
-    assert_cases(&rt, rt.alloc(), &TEXTS, &RECORDS)
-}
-
-/// Recordings of which the answers mean nothing.
-static FIGURES: [&str; 2] = [
+    // recordings of which the answers mean nothing;
     r#"explain
 @EMPTY
 -> Ok(AllYes)
@@ -205,15 +190,7 @@ entries of the stream: 1, recoverable: 0
 lines: 9, bytes: *
 a yes says nothing here: no entry of the stream is recoverable
 "#,
-];
-
-#[test]
-fn recordings_that_say_nothing(rt: HostRuntime) -> Result<(), Fail> {
-    assert_cases(&rt, rt.alloc(), &TEXTS, &FIGURES)
-}
-
-/// Lines that are refused.
-static REFUSED_LINES: [&str; 9] = [
+    // and lines that are refused.
     r#"explain
 @BOTH
 -> Ok(Refused)
@@ -268,6 +245,6 @@ This line does not end with }: its end may be missing.
 ];
 
 #[test]
-fn a_line_that_is_refused(rt: HostRuntime) -> Result<(), Fail> {
-    assert_cases(&rt, rt.alloc(), &TEXTS, &REFUSED_LINES)
+fn what_is_shown_and_how_a_run_ends(rt: HostRuntime) -> Result<(), Fail> {
+    assert_cases(&rt, rt.alloc(), &TEXTS, &CASES)
 }

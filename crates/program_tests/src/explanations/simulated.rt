@@ -152,6 +152,7 @@ client c1, namespace /, connection 2, turns 2, delivery not judged
     client  7 reply  10 got 1  12 lost  16 asks after 1  18 got 2  20 lost
 refused recovery: got no session, missed: not known
       16 c1  conn 2 asks p1 after 1-0
+no known cause of the refusal holds
 cause cut-before-reply (certain, line 16): The client asked for a session, and events came, but no
         reply did.
 do: nothing, where the client came back; else look at why the connection was cut.

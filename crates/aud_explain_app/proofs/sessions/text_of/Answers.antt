@@ -3,7 +3,7 @@ use Rattle.std.specs.Borrow.{Bor}
 use Rattle.std.proofs.lemmas.List.{length-map}
 use Rattle.std.proofs.lemmas.Result.{IfOk-weaker}
 use Rattle.aud_explain_app.specs.Alike.{telling_of}
-use Rattle.aud_explain_app.specs.Asked.{refused_of}
+use Rattle.aud_explain_app.specs.Asked.{asked_for}
 use Rattle.aud_explain_app.specs.CausesTold.{AreCausesTold}
 use Rattle.aud_explain_app.specs.Written.{IsWritten}
 use Rattle.aud_explain_app.proofs.Steps.{text_by}
@@ -22,6 +22,6 @@ returns c =
     in
     text_by recording c.args.sheet.lines.now c.args.layout.form c.args.layout.files.now t _ _ explained told
     c.as_str-pid.ensures
-    (c.as_slice-refused.ensures.value ∙ c.in_ok-refused.ensures recording c.requires.asked ∙ ap (refused_of recording) c.as_str-pid.ensures)
+    (c.as_slice-own.ensures.value ∙ c.in_ok-own.ensures recording c.requires.asked ∙ ap (asked_for recording) c.as_str-pid.ensures)
     c.in_ok-explained.ensures made.0
     (subst (λ n. AreCausesTold t.session.verdict n explained told.causes) (sym (length-map c.args.session.now.alike.items (λ (other : Bor (List ℕ)). other.now))) made.1)) c.told_text.ensures

@@ -1,0 +1,117 @@
+//! At which byte of a text a token begins.
+ghost use Rattle.std.specs.Prelude.{◌≡◌, ◌≤◌, length};
+ghost use Rattle.aud_refusals.specs.NoJson.{after_between, after_text, after_word, begin_of_token, begins, ends_word, is_bracket, is_comma_or_colon, is_white, mode_after};
+ghost use Rattle.aud_refusals.specs.declared.token_place.Mode.TheVariants.{Between};
+
+/// Within what a byte stands.
+#[derive(Clone, Copy, Drop)]
+pub enum Mode {
+    Between,
+    InWord,
+    /// In quotes.
+    InText,
+    /// In quotes, after a backslash.
+    InEscape,
+}
+
+pub(crate) fn is_white(b: u8) -> bool
+    ensures { result ≡ is_white b }
+{
+    matches!(b, b' ' | b'\t' | b'\n' | b'\r')
+}
+
+fn is_comma_or_colon(b: u8) -> bool
+    ensures { result ≡ is_comma_or_colon b }
+{
+    matches!(b, b',' | b':')
+}
+
+fn is_bracket(b: u8) -> bool
+    ensures { result ≡ is_bracket b }
+{
+    matches!(b, b'[' | b']' | b'{' | b'}')
+}
+
+fn ends_word(b: u8) -> bool
+    ensures { result ≡ ends_word b }
+{
+    if is_white(b) {
+        return true;
+    }
+    if is_comma_or_colon(b) {
+        return true;
+    }
+    is_bracket(b)
+}
+
+fn after_word(b: u8) -> Mode
+    ensures { result ≡ after_word b }
+{
+    if ends_word(b) {
+        Mode::Between
+    } else {
+        Mode::InWord
+    }
+}
+
+fn after_between(b: u8) -> Mode
+    ensures { result ≡ after_between b }
+{
+    if b == b'"' {
+        Mode::InText
+    } else {
+        after_word(b)
+    }
+}
+
+fn after_text(b: u8) -> Mode
+    ensures { result ≡ after_text b }
+{
+    match b {
+        b'"' => Mode::Between,
+        b'\\' => Mode::InEscape,
+        _ => Mode::InText,
+    }
+}
+
+fn mode_after(mode: Mode, b: u8) -> Mode
+    ensures { result ≡ mode_after mode b }
+{
+    match mode {
+        Mode::Between => after_between(b),
+        Mode::InWord => after_word(b),
+        Mode::InText => after_text(b),
+        Mode::InEscape => Mode::InText,
+    }
+}
+
+/// Whether a token begins at this byte.
+fn begins(mode: Mode, b: u8) -> bool
+    ensures { result ≡ begins mode b }
+{
+    match mode {
+        Mode::Between => !(is_white(b) || is_comma_or_colon(b)),
+        Mode::InWord => is_bracket(b),
+        Mode::InText | Mode::InEscape => false,
+    }
+}
+
+/// The byte, from 0, at which a token begins that so many others come before; the end, where there is none.
+pub(crate) fn begin_of_token(text: &[u8], before: usize) -> usize
+    ensures place { result ≡ begin_of_token Between before 0 text.now }
+    ensures inside { result ≤ length text.now }
+{
+    let mut mode = Mode::Between;
+    let mut left = before;
+    for (at, b) in text.iter().enumerate() {
+        let begins = begins(mode, *b);
+        mode = mode_after(mode, *b);
+        if begins {
+            if left == 0 {
+                return at;
+            }
+            left -= 1;
+        }
+    }
+    text.len()
+}
