@@ -1,6 +1,7 @@
 //! A node that took a session back while it was behind the break.
 ghost use Rattle.std.specs.Prelude.{◌≡◌};
-ghost use Rattle.aud_causes.specs.Behind.{behind, first_of, last_of, node_behind};
+ghost use Rattle.std.specs.Option.{option_copied};
+ghost use Rattle.aud_causes.specs.Behind.{behind, first_of, last_of, last_reached, node_behind};
 
 use crate::cause::Cause;
 use crate::facts::Facts;
@@ -9,23 +10,31 @@ use aud_node::Logs;
 use aud_session_facts::RecordPlace;
 
 /// Where the two frames stand in two stays, these match the turns, and the turn of the later one begins before the entry,
-/// which the turn before it had reached.
+/// which a turn before it had reached.
 pub(crate) fn node_behind(logs: &Logs<'_>, turns: &[Turn<'_>], facts: Facts) -> Option<Cause>
     ensures { result ≡ node_behind logs.now turns.now facts }
 {
     if !facts.matched || facts.later <= facts.earlier {
         return None;
     }
-    let before = turns.get(facts.later.saturating_sub(1))?;
     let turn = turns.get(facts.later)?;
-    behind(logs, before, turn, facts.parted.position)
+    let (before, _) = turns.split_at(facts.later);
+    let reached = last_reached(before, facts.parted.position)?;
+    behind(logs, reached, turn, facts.parted.position)
 }
 
-/// The break of one turn, and the `back` of the next, where that begins before this position, and the first had reached it.
+/// The last of the turns that reached this position.
+fn last_reached<'t, 'a>(turns: &'t [Turn<'a>], position: u64) -> Option<&'t Turn<'a>>
+    ensures { option_copied result ≡ last_reached position turns.now }
+{
+    turns.iter().rev().find(|turn| position <= turn.high)
+}
+
+/// The break of one turn, and the `back` of a later one, where that begins before this position.
 fn behind(logs: &Logs<'_>, before: &Turn<'_>, turn: &Turn<'_>, position: u64) -> Option<Cause>
     ensures { result ≡ behind logs.now position before.now turn.now }
 {
-    if position <= turn.low || before.high < position {
+    if position <= turn.low {
         return None;
     }
     Some(Cause::NodeBehindBreak {

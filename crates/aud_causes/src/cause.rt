@@ -8,7 +8,7 @@ use aud_session_facts::RecordPlace;
 /// all that was received of the session, in the order of the client's tap, and stays among those whose reply names it.
 #[derive(Clone, Copy, Drop)]
 pub enum Cause {
-    /// The node that took the session back was at a lower cursor than the one on which it had broken.
+    /// The node that took the session back was at a lower cursor than an earlier one on which it had broken.
     NodeBehindBreak {
         broke: RecordPlace,
         back: RecordPlace,

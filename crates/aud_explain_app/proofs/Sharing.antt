@@ -1,5 +1,5 @@
 -- Sessions with the same fault at the same record.
-use Rattle.std.proofs.Common.{◌≡◌, ◌<◌, ◌+◌, ◌++◌, ◌||◌, ℕ, zero, suc, Bool, true, false, not, cond, List, [], ◌∷◌, length, map, flat_map, find, get_or, Option, Some, None, Bor, option_map, slice_get, refl, sym, ap, ◌∙◌, append-nil, arith}
+use Rattle.std.proofs.Common.{◌≡◌, ◌<◌, ◌+◌, ◌++◌, ◌||◌, ℕ, zero, suc, Bool, true, false, not, cond, List, [], ◌∷◌, length, map, filter, flat_map, get_or, Option, Some, None, Bor, option_map, slice_get, refl, sym, ap, ◌∙◌, append-nil, arith}
 use Rattle.std.specs.List.{AllZip, list_any}
 use Rattle.std.specs.Option.{option_map_or}
 use Rattle.std.proofs.lemmas.Grind.{flat_map-append}
@@ -46,15 +46,17 @@ out_of_order c node number first =
 in_order : (c : Cluster) (node : ℕ) → AreInOrder c.stream (node_log c node) → is_unordered c node ≡ false
 in_order c node are = no_number (λ n. not (is_record_in_order c.stream (node_log c node) n)) 0 (length (node_log c node)) (λ n within. ap not (are n (omega (arith, within))))
 
--- the first record out of order is one of the first node that is
-pub first_unordered : (c : Cluster) (nodes : List ℕ) (firsts : List (Option ℕ)) → AllZip (IsOrderRead c) nodes firsts
-    → option_map (λ (at : RecordPlace). at.node) (slice_get (places_in nodes firsts) 0) ≡ find (is_unordered c) nodes
-first_unordered c [] [] read = refl
-first_unordered c [] (first ∷ firsts) read = absurd read
-first_unordered c (node ∷ nodes) [] read = absurd read
-first_unordered c (node ∷ nodes) (Some number ∷ firsts) read = sym (ap (λ b. cond b (Some node) (find (is_unordered c) nodes)) (out_of_order c node number read.0))
-first_unordered c (node ∷ nodes) (None ∷ firsts) read =
-    first_unordered c nodes firsts read.1 ∙ sym (ap (λ b. cond b (Some node) (find (is_unordered c) nodes)) (in_order c node read.0))
+-- the nodes of the first records out of order are those that are
+pub nodes_unordered : (c : Cluster) (nodes : List ℕ) (firsts : List (Option ℕ)) → AllZip (IsOrderRead c) nodes firsts
+    → map (λ (at : RecordPlace). at.node) (places_in nodes firsts) ≡ filter (is_unordered c) nodes
+nodes_unordered c [] [] read = refl
+nodes_unordered c [] (first ∷ firsts) read = absurd read
+nodes_unordered c (node ∷ nodes) [] read = absurd read
+nodes_unordered c (node ∷ nodes) (Some number ∷ firsts) read =
+    ap (λ ns. node ∷ ns) (nodes_unordered c nodes firsts read.1)
+    ∙ sym (ap (λ b. cond b (node ∷ filter (is_unordered c) nodes) (filter (is_unordered c) nodes)) (out_of_order c node number read.0))
+nodes_unordered c (node ∷ nodes) (None ∷ firsts) read =
+    nodes_unordered c nodes firsts read.1 ∙ sym (ap (λ b. cond b (node ∷ filter (is_unordered c) nodes) (filter (is_unordered c) nodes)) (in_order c node read.0))
 
 -- ---- sessions by their numbers
 

@@ -1,7 +1,7 @@
 -- Sessions with the same fault at the same record: the first of them is explained, and its explanation names the others.
-use Rattle.std.specs.Prelude.{ℕ, Bool, false, not, List, [], ◌∷◌, ◌++◌, codes, find, flat_map, length, map, nat_eq, Option, Some, None, option_to_list, slice_get, if◌then◌else◌}
-use Rattle.std.specs.List.{list_any}
-use Rattle.std.specs.Option.{option_and_then, option_map, option_map_or}
+use Rattle.std.specs.Prelude.{ℕ, Bool, false, not, List, [], ◌∷◌, ◌++◌, codes, flat_map, length, map, nat_eq, Option, Some, None, option_to_list, slice_get, if◌then◌else◌}
+use Rattle.std.specs.List.{filter, list_any}
+use Rattle.std.specs.Option.{option_map, option_map_or}
 use Rattle.aud_base.specs.Places.{numbers_from, places_where}
 use Rattle.aud_tap.specs.declared.taps.Tap.{Tap}
 use Rattle.aud_node.specs.Cluster.{Cluster, node_log}
@@ -20,28 +20,32 @@ use Rattle.aud_verdict.specs.declared.verdict.Verdict.TheVariants.{Yes, No}
 use Rattle.aud_explain_app.specs.Asked.{has_refused}
 use Rattle.aud_explain_app.specs.declared.alike.Told.{Told}
 
--- ---- the record at which a fault shows
+-- ---- the records at which a fault shows
 
 -- a record of the node's log is out of order
 abbrev pub is_unordered : Cluster → ℕ → Bool
 is_unordered c node = list_any (λ number. not (is_record_in_order c.stream (node_log c node) number)) (numbers_from 0 (length (node_log c node)))
 
--- the tap whose first record of the fault shows it for all sessions there: of a session's nodes, in the order of the
--- taps, the first that is out of order; its client's tap, where a record of that is no packet, or nobody knows the
--- session of an event. Other faults are a session's own
-abbrev pub tap_of : Cluster → Text → Fault → Option ℕ
-tap_of c pid Order = find (is_unordered c) (own_places c pid)
-tap_of c pid Frame = only_of (naming_places c.taps pid)
-tap_of c pid Orphan = only_of (naming_places c.taps pid)
-tap_of c pid fault = None
+-- the taps whose first records of the fault show it for all sessions there: of a session's nodes, in the order of the
+-- taps, those that are out of order; its client's tap, where a record of that is no packet, or nobody knows the session
+-- of an event. Other faults are a session's own
+abbrev pub taps_of : Cluster → Text → Fault → List ℕ
+taps_of c pid Order = filter (is_unordered c) (own_places c pid)
+taps_of c pid Frame = option_to_list (only_of (naming_places c.taps pid))
+taps_of c pid Orphan = option_to_list (only_of (naming_places c.taps pid))
+taps_of c pid fault = []
 
--- that record, named by the fault and its tap: `ORDER a`
-abbrev pub record_of : Fault → Tap → Text
-record_of fault tap = fault_word fault ++ codes " " ++ tap.name
+-- the name of a tap, behind a blank
+abbrev pub tap_name : Option Tap → Text
+tap_name tap = option_map_or (λ (t : Tap). codes " " ++ t.name) tap []
 
--- the one at which the fault of the session with this pid shows
+-- the records, named by the fault and the taps at these places, whose names have no blank: `ORDER a b`
+abbrev pub records_of : Fault → List Tap → List ℕ → Option Text
+records_of fault taps places = if is_empty places then None else Some (fault_word fault ++ flat_map (λ place. tap_name (slice_get taps place)) places)
+
+-- those at which the fault of the session with this pid shows
 abbrev pub fault_record : Cluster → Text → Fault → Option Text
-fault_record c pid fault = option_map (record_of fault) (option_and_then (slice_get c.taps) (tap_of c pid fault))
+fault_record c pid fault = records_of fault c.taps (taps_of c pid fault)
 
 -- the same by the verdict: none where it is yes
 abbrev pub verdict_record : Cluster → Text → Verdict → Option Text

@@ -42,6 +42,15 @@ within_of c only (Some session) = if is_session_within c only session then sessi
 abbrev pub sessions_named : Cluster → Option Only → List SessionVerdict → List Text → List SessionVerdict
 sessions_named c only sessions pids = flat_map (λ pid. within_of c only (session_of sessions pid)) (with_texts [] pids)
 
+-- the pid, if it is that of this session, which isn't within it
+abbrev pub left_out_of : Cluster → Option Only → Text → Option SessionVerdict → List Text
+left_out_of c only pid None = []
+left_out_of c only pid (Some session) = if is_session_within c only session then [] else pid ∷ []
+
+-- those of the pids, each once where it first stands, whose sessions aren't
+abbrev pub pids_left_out : Cluster → Option Only → List SessionVerdict → List Text → List Text
+pids_left_out c only sessions pids = flat_map (λ pid. left_out_of c only pid (session_of sessions pid)) (with_texts [] pids)
+
 -- those that the words name, where they name any; else all that have something to explain
 abbrev pub sessions_chosen : Cluster → Option Only → List Text → List SessionVerdict → List SessionVerdict
 sessions_chosen c only pids sessions = if is_empty pids then sessions_told c only sessions else sessions_named c only sessions pids

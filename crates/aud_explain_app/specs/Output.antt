@@ -1,5 +1,6 @@
 -- What `explain` writes, and how it ends.
-use Rattle.std.specs.Prelude.{◌≡◌, ◌-◌, ◌^◌, ◌⊎◌, ℕ, List, [], ◌∷◌, ◌++◌, codes, count_by, length, min, sum_by, None, Option, Some}
+use Rattle.std.specs.Prelude.{◌≡◌, ◌-◌, ◌^◌, ◌⊎◌, ℕ, List, [], ◌∷◌, ◌++◌, codes, count_by, length, map, min, sum_by, None, Option, Some}
+use Rattle.std.specs.Borrow.{Bor}
 use Rattle.std.specs.List.{filter}
 use Rattle.aud_node.specs.Cluster.{Cluster, cluster_of}
 use Rattle.aud_node.specs.Recoverable.{is_recoverable}
@@ -24,7 +25,7 @@ use Rattle.aud_maker.specs.Sessions.{sessions_of}
 use Rattle.aud_session_facts.specs.declared.asked.Recovery.{Recovery}
 use Rattle.aud_session_facts.specs.Recoveries.{is_granted, is_refused, recoveries_of}
 use Rattle.aud_verdict.specs.declared.verdict.SessionVerdict.{SessionVerdict}
-use Rattle.aud_verdict.specs.Output.{OutputSeen}
+use Rattle.aud_explain_app.specs.declared.output.Told.{Told}
 use Rattle.aud_verdict.specs.YesOf.{is_yes}
 use Rattle.aud_explain_app.specs.declared.summary.causes.CausesTold.{CausesTold}
 use Rattle.aud_explain_app.specs.declared.summary.Summary.{Summary}
@@ -39,7 +40,7 @@ use Rattle.aud_verdict.specs.Verdicts.{AreVerdicts}
 use Rattle.aud_explain_app.specs.RefusedLine.{refused_output}
 use Rattle.aud_explain_app.specs.Page.{IsPage}
 use Rattle.aud_explain_app.specs.Alike.{tellings}
-use Rattle.aud_explain_app.specs.Chosen.{sessions_chosen}
+use Rattle.aud_explain_app.specs.Chosen.{pids_left_out, sessions_chosen}
 use Rattle.aud_explain_app.specs.Status.{status_by}
 use Rattle.aud_explain_app.specs.declared.fault.ExplainFault.{ExplainFault}
 use Rattle.aud_explain_app.specs.declared.fault.ExplainFault.TheVariants.{NoRecord, OtherPart, Unexplained, Write}
@@ -90,11 +91,16 @@ pub record AreFigures (options : ExplainOptions) (c : Cluster) (size : Size) (ve
   pub is_summary : IsSummary c verdicts (recoveries_of c) size figures.summary
   pub status_is : figures.status ≡ status_by options.fail_on (says_nothing figures.summary) verdicts (recoveries_of c)
 
+-- pids that are borrowed
+abbrev pub pids_in : List (Bor (List ℕ)) → List Text
+pids_in pids = map (λ pid. pid.now) pids
+
 -- the output over a recording, where these are the lines of its records, in these files: the explanation of each session
 -- that is shown, by its verdict, with the whole where that is asked for, those with the same fault at the same record once,
 -- and the figures of all of it; sessions that clients asked for in vain and that no record names are shown too, and not
--- counted; and each pid of the words is that of one of all these. What the explanations told of causes is counted too
-pub record IsExplaining (options : ExplainOptions) (c : Cluster) (lines : List TapLines) (files : List InputFile) (size : Size) (output : OutputSeen) : Type 0 where
+-- counted; and each pid of the words is that of one of all these, and left out where it isn't within what --only says. What the
+-- explanations told of causes is counted too
+pub record IsExplaining (options : ExplainOptions) (c : Cluster) (lines : List TapLines) (files : List InputFile) (size : Size) (told : Told) : Type 0 where
   pub verdicts : List SessionVerdict
   pub are_verdicts : AreVerdicts c options.whole (sessions_of c) verdicts
   pub sessions : List SessionVerdict
@@ -106,18 +112,19 @@ pub record IsExplaining (options : ExplainOptions) (c : Cluster) (lines : List T
   pub figures : Figures
   pub are_figures : AreFigures options c size verdicts figures
   pub seconds : ℕ
-  pub text_is : output.text ≡ texts ++ summary_in (form_of options.form) (timed figures.summary seconds) causes
-  pub status_is : output.status ≡ figures.status
+  pub text_is : told.output.text ≡ texts ++ summary_in (form_of options.form) (timed figures.summary seconds) causes
+  pub status_is : told.output.status ≡ figures.status
+  pub left_out_are : pids_in told.left_out.items ≡ pids_left_out c options.only sessions options.pids
 
 -- the output is that of these records
-abbrev pub IsShowing : List NamedRecord → Form → List Tap → List TapLines → List InputFile → OutputSeen → Type 0
-IsShowing named form taps lines files output = records_output form files taps lines named ≡ Some output
+abbrev pub IsShowing : List NamedRecord → Form → List Tap → List TapLines → List InputFile → Told → Type 0
+IsShowing named form taps lines files told = (records_output form files taps lines named ≡ Some told.output) × (pids_in told.left_out.items ≡ [])
 
 -- the output over taps, where these are the lines of their records, in these files: the records that are named, or, where
 -- none is, the sessions explained
-abbrev pub IsAnswer : List NamedRecord → ExplainOptions → List Tap → List TapLines → List InputFile → Size → OutputSeen → Type 0
-IsAnswer [] options taps lines files size output = IsExplaining options (cluster_of taps) lines files size output
-IsAnswer (named ∷ more) options taps lines files size output = IsShowing (named ∷ more) (form_of options.form) taps lines files output
+abbrev pub IsAnswer : List NamedRecord → ExplainOptions → List Tap → List TapLines → List InputFile → Size → Told → Type 0
+IsAnswer [] options taps lines files size told = IsExplaining options (cluster_of taps) lines files size told
+IsAnswer (named ∷ more) options taps lines files size told = IsShowing (named ∷ more) (form_of options.form) taps lines files told
 
 -- where the lines of a part are to be named as those of the input, the part has this size
 abbrev pub IsOf : Option PartLines → Size → Type 0
@@ -138,11 +145,11 @@ files_told (Some part) names counts = part.files
 -- what is told of files, by what their readers have left: their recording explained, or the records of it that are named
 -- shown, or their first refused line told.
 -- Where they are a part, the lines of records are named as those of the input, and a refused line as that of the part
-abbrev pub IsTold : ExplainOptions → Option PartLines → List (Option (List ℕ)) → OutputSeen → Type 0
-IsTold options part lefts output =
+abbrev pub IsTold : ExplainOptions → Option PartLines → List (Option (List ℕ)) → Told → Type 0
+IsTold options part lefts told =
     ((read : Recorded) × AreRecorded lefts read × IsOf part read.size × IsAnswer options.records options read.taps (lines_told part read.lines)
-    (files_told part options.files read.counts.items) read.size output)
-    ⊎ ((refusal : Refusal) × IsRefused lefts refusal × (output ≡ refused_output (form_of options.form) options.files refusal))
+    (files_told part options.files read.counts.items) read.size told)
+    ⊎ ((refusal : Refusal) × IsRefused lefts refusal × (told.output ≡ refused_output (form_of options.form) options.files refusal) × (pids_in told.left_out.items ≡ []))
 
 -- what is told is written as it is, or in a page that holds it
 abbrev pub IsIn : OutputForm → List ℕ → List ℕ → Type 0
@@ -151,11 +158,12 @@ IsIn asked.Json told text = text ≡ told
 IsIn asked.Html told text = IsPage told text
 
 -- the output over files: what is told of them, in the form that the words ask for
-pub record IsExplanation (options : ExplainOptions) (part : Option PartLines) (lefts : List (Option (List ℕ))) (output : OutputSeen) : Type 0 where
-  pub told : OutputSeen
+pub record IsExplanation (options : ExplainOptions) (part : Option PartLines) (lefts : List (Option (List ℕ))) (explained : Told) : Type 0 where
+  pub told : Told
   pub is_told : IsTold options part lefts told
-  pub is_in : IsIn options.form told.text output.text
-  pub status_is : output.status ≡ told.status
+  pub is_in : IsIn options.form told.output.text explained.output.text
+  pub status_is : explained.output.status ≡ told.output.status
+  pub left_out_are : explained.left_out ≡ told.left_out
 
 -- the files are recorded, and of the pids of the words the one with this number is the first that no session there has
 abbrev pub IsFirstMissing : ExplainOptions → List (Option (List ℕ)) → ℕ → Type 0

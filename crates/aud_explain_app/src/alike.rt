@@ -1,13 +1,13 @@
 //! Sessions with the same fault at the same record.
-ghost use Rattle.std.specs.Prelude.{◌≡◌, ◌++◌, IfOk, OnOk, find, map, option_map, slice_get, string_bytes};
-ghost use Rattle.std.specs.Option.{option_and_then, option_copied};
+ghost use Rattle.std.specs.Prelude.{◌≡◌, ◌++◌, IfOk, OnOk, filter, map, option_map, option_to_list, string_bytes};
+ghost use Rattle.std.specs.Option.{option_copied};
 ghost use Rattle.aud_base.specs.Places.{noted, places_of};
 ghost use Rattle.aud_node.specs.Cluster.{Cluster};
 ghost use Rattle.aud_node.specs.OwnPlaces.{own_places};
 ghost use Rattle.aud_node.specs.Stream.{Text};
 ghost use Rattle.aud_client.specs.Replies.{is_this};
 ghost use Rattle.aud_findings.specs.Prepared.{IsPreparedOf};
-ghost use Rattle.aud_explain_app.specs.Alike.{alone, is_unordered, numbers_at, pid_of, pids_at, record_of, shared_record, tap_of, telling_of, tellings, told_by, told_first, told_once};
+ghost use Rattle.aud_explain_app.specs.Alike.{alone, is_unordered, numbers_at, pid_of, pids_at, records_of, shared_record, tap_name, taps_of, telling_of, tellings, told_by, told_first, told_once};
 ghost use Rattle.aud_explain_app.specs.Asked.{AreAsked};
 
 use crate::asked::Asked;
@@ -219,7 +219,7 @@ fn push_pid<'s>(
     Ok(())
 }
 
-/// The record that the session may share with others.
+/// The records that the session may share with others.
 fn shared_record(
     recording: &Recording<'_>,
     alloc: Global,
@@ -239,72 +239,98 @@ fn shared_record(
     match &session.verdict {
         Verdict::Yes { .. } => Ok(None),
         Verdict::No(fault) => {
-            let place = tap_of(recording, alloc, prepared, pid, fault)?;
-            record_at(alloc, recording.logs().taps(), fault, place)
+            let places = taps_of(recording, alloc, prepared, pid, fault)?;
+            records_of(alloc, recording.logs().taps(), fault, places.as_slice())
         }
     }
 }
 
-/// The record, by the fault and the tap at this place.
-fn record_at(
+/// The records, by the fault and the taps at these places.
+fn records_of(
     alloc: Global,
     taps: &[Tap],
     fault: &Fault,
-    place: Option<usize>,
+    places: &[usize],
 ) -> Result<Option<String>, AllocError>
     ensures { IfOk result (λ at. option_map string_bytes at
-        ≡ option_map (record_of fault.now) (option_and_then (slice_get taps.now) place)) }
+        ≡ records_of fault.now taps.now places.now) }
 {
-    let Some(place) = place else {
+    if places.is_empty() {
         return Ok(None);
-    };
-    let Some(tap) = taps.get(place) else {
-        return Ok(None);
-    };
-    let word = fault_word(fault);
-    let name = tap.name.as_str();
-    Ok(Some(format!(in alloc; "{word} {name}")?))
+    }
+    let mut name = String::new(alloc);
+    name.push_str(fault_word(fault))?;
+    for place in places {
+        push_tap(&mut name, taps.get(*place))?;
+    }
+    Ok(Some(name))
 }
 
-/// The place of the tap whose first record of the fault shows it.
-fn tap_of(
+/// Puts the name of the tap at the end, behind a blank.
+fn push_tap(name: &mut String, tap: Option<&Tap>) -> Result<(), AllocError>
+    ensures { OnOk result (string_bytes name.new
+        ≡ string_bytes name.old ++ tap_name (option_copied tap.entry)) }
+{
+    match tap {
+        Some(tap) => {
+            name.push_str(" ")?;
+            name.push_str(tap.name.as_str())
+        }
+        None => Ok(()),
+    }
+}
+
+/// The places of the taps whose first records of the fault show it.
+fn taps_of(
     recording: &Recording<'_>,
     alloc: Global,
     prepared: &Prepared,
     pid: &str,
     fault: &Fault,
-) -> Result<Option<usize>, AllocError>
+) -> Result<Vec<usize>, AllocError>
     requires { IsPreparedOf recording.now prepared.now }
-    ensures { IfOk result (λ place. place ≡ tap_of recording.now pid.now fault.now) }
+    ensures { IfOk result (λ places. places.items ≡ taps_of recording.now pid.now fault.now) }
 {
     match fault {
-        Fault::Order => unordered_tap(recording, alloc, prepared, pid),
-        Fault::Frame | Fault::Orphan => Ok(only_client(recording, pid)),
-        _ => Ok(None),
+        Fault::Order => unordered_nodes(recording, alloc, prepared, pid),
+        Fault::Frame | Fault::Orphan => place_of(alloc, only_client(recording, pid)),
+        _ => Ok(Vec::new(alloc)),
     }
 }
 
-/// The first of the session's nodes that is out of order.
-fn unordered_tap(
+/// The session's nodes that are out of order.
+fn unordered_nodes(
     recording: &Recording<'_>,
     alloc: Global,
     prepared: &Prepared,
     pid: &str,
-) -> Result<Option<usize>, AllocError>
+) -> Result<Vec<usize>, AllocError>
     requires { IsPreparedOf recording.now prepared.now }
-    ensures { IfOk result (λ node. node
-        ≡ find (is_unordered recording.now) (own_places recording.now pid.now)) }
+    ensures { IfOk result (λ nodes. nodes.items
+        ≡ filter (is_unordered recording.now) (own_places recording.now pid.now)) }
 {
     let found = unordered_of(alloc, recording.logs(), prepared, pid)?;
-    Ok(first_node(&found))
+    nodes_of(alloc, &found)
 }
 
-/// The node of the first of these records.
-fn first_node(found: &[RecordPlace]) -> Option<usize>
-    ensures { result ≡ option_map (λ at. at.node) (slice_get found.now 0) }
+/// The nodes of these records.
+fn nodes_of(alloc: Global, found: &[RecordPlace]) -> Result<Vec<usize>, AllocError>
+    ensures { IfOk result (λ nodes. nodes.items ≡ map (λ at. at.node) found.now) }
 {
-    match found {
-        [first, ..] => Some(first.node),
-        [] => None,
+    let mut nodes = Vec::new(alloc);
+    for at in found {
+        nodes.push(at.node)?;
     }
+    Ok(nodes)
+}
+
+/// The place, if there is one.
+fn place_of(alloc: Global, place: Option<usize>) -> Result<Vec<usize>, AllocError>
+    ensures { IfOk result (λ places. places.items ≡ option_to_list place) }
+{
+    let mut places = Vec::new(alloc);
+    if let Some(place) = place {
+        places.push(place)?;
+    }
+    Ok(places)
 }

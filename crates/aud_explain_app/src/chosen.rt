@@ -8,8 +8,9 @@ ghost use Rattle.aud_base.specs.Places.{places_of, texts_of};
 ghost use Rattle.aud_node.specs.Cluster.{Cluster};
 ghost use Rattle.aud_node.specs.Stream.{Text};
 ghost use Rattle.aud_explain_app.specs.Asked.{AreAsked};
-ghost use Rattle.aud_explain_app.specs.Chosen.{numbers_of, session_of, sessions_chosen, sessions_named, sessions_told, within_of};
+ghost use Rattle.aud_explain_app.specs.Chosen.{left_out_of, numbers_of, pids_left_out, session_of, sessions_chosen, sessions_named, sessions_told, within_of};
 ghost use Rattle.aud_explain_app.specs.Missing.{first_missing};
+ghost use Rattle.aud_explain_app.specs.Output.{pids_in};
 ghost use Rattle.aud_explain_app.specs.Strangers.{pids_of};
 ghost use Rattle.aud_explain_app.specs.declared.fault.Unexplained.TheVariants.{NoSession};
 
@@ -23,18 +24,29 @@ use aud_verdict::SessionVerdict;
 use std::alloc::{AllocError, Global};
 use std::hash::RandomState;
 
+/// Which sessions are shown.
+#[derive(Drop)]
+pub(crate) struct ChosenSessions<'s, 'o> {
+    pub(crate) shown: Vec<&'s SessionVerdict>,
+    /// The pids of the words whose sessions aren't, since `--only` leaves them out.
+    pub(crate) left_out: Vec<&'o str>,
+}
+
 /// Those of the sessions that are shown: those that the words name, each once, in their order, or all that have
 /// something to explain. The first pid of no session is the fault. Sessions are looked up by these keys.
-pub(crate) fn chosen<'s>(
+pub(crate) fn chosen<'s, 'o>(
     alloc: Global,
     keys: RandomState,
-    options: &ExplainOptions,
+    options: &'o ExplainOptions,
     asked: &Asked,
     sessions: &'s [SessionVerdict],
-) -> Result<Vec<&'s SessionVerdict>, Unexplained>
+) -> Result<ChosenSessions<'s, 'o>, Unexplained>
     ensures chosen { (c : Cluster) → AreAsked c asked.now
-        → IfOk result (λ found. map (λ s. s.now) found.items
+        → IfOk result (λ found. map (λ s. s.now) found.shown.items
         ≡ sessions_chosen c options.now.only options.now.pids sessions.now) }
+    ensures left_out { (c : Cluster) → AreAsked c asked.now
+        → IfOk result (λ found. pids_in found.left_out.items
+        ≡ pids_left_out c options.now.only sessions.now options.now.pids) }
     ensures none_missing { OnOk result (first_missing (pids_of sessions.now) options.now.pids
         ≡ None) }
     ensures missing { (number : ℕ) → result ≡ Err (NoSession number)
@@ -42,7 +54,10 @@ pub(crate) fn chosen<'s>(
 {
     let pids = options.pids.as_slice();
     if pids.is_empty() {
-        return Ok(told(alloc, options.only, asked, sessions)?);
+        return Ok(ChosenSessions {
+            shown: told(alloc, options.only, asked, sessions)?,
+            left_out: Vec::new(alloc),
+        });
     }
     let index = index_of(alloc, keys, sessions)?;
     named(alloc, keys, options.only, asked, &index, sessions, pids)
@@ -103,24 +118,30 @@ fn session_of<'s>(
 }
 
 /// Those with these pids, in their order; of a pid that stands several times, the first counts.
-fn named<'s>(
+fn named<'s, 'o>(
     alloc: Global,
     keys: RandomState,
     only: Option<Only>,
     asked: &Asked,
     index: &Places,
     sessions: &'s [SessionVerdict],
-    pids: &[Text],
-) -> Result<Vec<&'s SessionVerdict>, Unexplained>
+    pids: &'o [Text],
+) -> Result<ChosenSessions<'s, 'o>, Unexplained>
     requires { (pid : Text) → places_of index.now pid ≡ numbers_of sessions.now pid }
     ensures named { (c : Cluster) → AreAsked c asked.now
-        → IfOk result (λ found. map (λ s. s.now) found.items
+        → IfOk result (λ found. map (λ s. s.now) found.shown.items
         ≡ sessions_named c only sessions.now pids.now) }
+    ensures left_out { (c : Cluster) → AreAsked c asked.now
+        → IfOk result (λ found. pids_in found.left_out.items
+        ≡ pids_left_out c only sessions.now pids.now) }
     ensures none_missing { OnOk result (first_missing (pids_of sessions.now) pids.now ≡ None) }
     ensures missing { (number : ℕ) → result ≡ Err (NoSession number)
         → first_missing (pids_of sessions.now) pids.now ≡ Some number }
 {
-    let mut found = Vec::new(alloc);
+    let mut found = ChosenSessions {
+        shown: Vec::new(alloc),
+        left_out: Vec::new(alloc),
+    };
     let mut seen = Places::new(alloc, keys);
     for (number, pid) in pids.iter().enumerate() {
         let text = pid.as_str();
@@ -132,26 +153,31 @@ fn named<'s>(
     Ok(found)
 }
 
-/// Adds the session of this pid, if the pid was not seen before and the session is within what `--only` says.
-fn push_once<'s>(
-    found: &mut Vec<&'s SessionVerdict>,
+/// Adds the session of this pid, if the pid was not seen before and the session is within what `--only` says; or the
+/// pid, where it isn't.
+fn push_once<'s, 'o>(
+    found: &mut ChosenSessions<'s, 'o>,
     seen: &mut Places,
     only: Option<Only>,
     asked: &Asked,
     session: &'s SessionVerdict,
-    pid: &str,
+    pid: &'o str,
 ) -> Result<(), AllocError>
     ensures seen { OnOk result (texts_of seen.new ≡ with_text (texts_of seen.old) pid.now) }
     ensures found { (c : Cluster) → AreAsked c asked.now
-        → OnOk result (map (λ s. s.now) found.new.items
-        ≡ map (λ s. s.now) found.old.items
+        → OnOk result (map (λ s. s.now) found.new.shown.items
+        ≡ map (λ s. s.now) found.old.shown.items
         ++ (if list_any (bytes_eq pid.now) (texts_of seen.old) then []
         else within_of c only (Some session.now))) }
+    ensures left_out { (c : Cluster) → AreAsked c asked.now
+        → OnOk result (pids_in found.new.left_out.items ≡ pids_in found.old.left_out.items
+        ++ (if list_any (bytes_eq pid.now) (texts_of seen.old) then []
+        else left_out_of c only pid.now (Some session.now))) }
 {
     if !is_first(seen, pid)? {
         return Ok(());
     }
-    push_within(found, only, asked, session)
+    push_named(found, only, asked, session, pid)
 }
 
 /// Notes the pid, and says whether it is seen for the first time.
@@ -165,23 +191,29 @@ fn is_first(seen: &mut Places, pid: &str) -> Result<bool, AllocError>
     Ok(seen.len() != before)
 }
 
-/// Adds the session, if it is within what `--only` says.
-fn push_within<'s>(
-    found: &mut Vec<&'s SessionVerdict>,
+/// Adds the session, if it is within what `--only` says; or its pid.
+fn push_named<'s, 'o>(
+    found: &mut ChosenSessions<'s, 'o>,
     only: Option<Only>,
     asked: &Asked,
     session: &'s SessionVerdict,
+    pid: &'o str,
 ) -> Result<(), AllocError>
-    ensures { (c : Cluster) → AreAsked c asked.now
-        → OnOk result (map (λ s. s.now) found.new.items
-        ≡ map (λ s. s.now) found.old.items ++ within_of c only (Some session.now)) }
+    ensures found { (c : Cluster) → AreAsked c asked.now
+        → OnOk result (map (λ s. s.now) found.new.shown.items
+        ≡ map (λ s. s.now) found.old.shown.items ++ within_of c only (Some session.now)) }
+    ensures left_out { (c : Cluster) → AreAsked c asked.now
+        → OnOk result (pids_in found.new.left_out.items
+        ≡ pids_in found.old.left_out.items ++ left_out_of c only pid.now (Some session.now)) }
 {
     if is_within(
         only,
         &session.verdict,
         asked.is_refused(session.pid.as_str()),
     ) {
-        found.push(session)?;
+        found.shown.push(session)?;
+    } else {
+        found.left_out.push(pid)?;
     }
     Ok(())
 }

@@ -11,7 +11,8 @@
 //! let keys = RandomState::new(&rt)?;
 //! let mut files = [Watched::new(bundle)];
 //! let mut output = Watched::new(Vec::new(alloc));
-//! let status = explain(&rt, alloc, keys, &mut files, &mut output, &options, None)?;
+//! let ending = explain(&rt, alloc, keys, &mut files, &mut output, &options, None)?;
+//! // ending.status, and ending.left_out: the sessions of the words that --only leaves out
 //! ```
 //!
 //! The summary has the figures of the recording: [`summary_of`] counts them, and [`summary_text`] and [`summary_json`]
@@ -31,6 +32,7 @@ mod alike;
 mod asked;
 mod causes_told;
 mod chosen;
+mod ending;
 mod events;
 mod explained;
 mod fault;
@@ -52,6 +54,7 @@ mod summary;
 mod turns;
 mod written;
 
+pub use ending::Ending;
 pub use fault::{ExplainFault, Unexplained};
 pub use program::explain;
 pub use summary::causes::{CausesTold, cause_names};

@@ -6,8 +6,8 @@ ghost use Rattle.aud_maker.specs.Sessions.{sessions_of};
 ghost use Rattle.aud_verdict.specs.Verdicts.{AreVerdicts};
 ghost use Rattle.aud_explain_app.specs.Alike.{tellings};
 ghost use Rattle.aud_explain_app.specs.Asked.{AreAsked};
-ghost use Rattle.aud_explain_app.specs.Output.{AreFigures, IsExplaining, form_of, summary_in, timed};
-ghost use Rattle.aud_explain_app.specs.Chosen.{sessions_chosen};
+ghost use Rattle.aud_explain_app.specs.Output.{AreFigures, IsExplaining, form_of, pids_in, summary_in, timed};
+ghost use Rattle.aud_explain_app.specs.Chosen.{pids_left_out, sessions_chosen};
 ghost use Rattle.aud_explain_app.specs.Missing.{first_missing, pids_known};
 ghost use Rattle.aud_explain_app.specs.Strangers.{pids_of};
 ghost use Rattle.aud_explain_app.specs.Texts.{AddTexts};
@@ -15,7 +15,7 @@ ghost use Rattle.aud_explain_app.specs.declared.fault.Unexplained.TheVariants.{N
 
 use crate::alike::tellings;
 use crate::asked::Asked;
-use crate::chosen::chosen;
+use crate::chosen::{ChosenSessions, chosen};
 use crate::fault::Unexplained;
 use crate::prepared::prepared_for;
 use crate::sessions::push_sessions;
@@ -46,13 +46,23 @@ pub struct Figures {
     pub status: Status,
 }
 
+/// What is told.
+#[derive(Drop)]
+pub struct Told<'o> {
+    pub output: Output,
+    /// The pids of the words whose sessions `--only` leaves out.
+    pub left_out: Vec<&'o str>,
+}
+
 /// The explanations of sessions.
 #[derive(Drop)]
-struct Explanations {
+struct Explanations<'o> {
     /// One after the other, written.
     text: String,
     /// What each of them tells of causes.
     causes: Vec<CausesTold>,
+    /// The pids of the words whose sessions `--only` leaves out.
+    left_out: Vec<&'o str>,
 }
 
 /// The form of the explanations: a page holds JSON.
@@ -131,16 +141,16 @@ fn input_of(size: Size, seconds: u64) -> Input
 }
 
 /// The explanations, and the summary of what was read since `start`. The lines are those of the records, in these files.
-pub(crate) fn output_of<H: Threads + Wait + Clock + Sync>(
+pub(crate) fn output_of<'o, H: Threads + Wait + Clock + Sync>(
     rt: &H,
     alloc: Global,
     keys: RandomState,
-    options: &ExplainOptions,
+    options: &'o ExplainOptions,
     start: Option<Instant>,
     recorded: &Recorded,
     lines: &RecordLines,
     files: &[InputFile],
-) -> Result<Output, Unexplained>
+) -> Result<Told<'o>, Unexplained>
     requires names { AreNamedOnce recorded.now.taps }
     requires workers { (0 < options.now.workers) × (options.now.workers ≤ 64) }
     ensures explaining { IfOk result (IsExplaining options.now
@@ -169,17 +179,17 @@ pub(crate) fn output_of<H: Threads + Wait + Clock + Sync>(
 }
 
 /// The same over the recording, of whose sessions these are the verdicts.
-fn explaining<H: Threads + Clock + Sync>(
+fn explaining<'o, H: Threads + Clock + Sync>(
     rt: &H,
     alloc: Global,
     keys: RandomState,
-    options: &ExplainOptions,
+    options: &'o ExplainOptions,
     start: Option<Instant>,
     sheet: Sheet<'_, '_>,
     files: &[InputFile],
     size: Size,
     verdicts: Vec<SessionVerdict>,
-) -> Result<Output, Unexplained>
+) -> Result<Told<'o>, Unexplained>
     requires { AreVerdicts sheet.recording.now options.now.whole
         (sessions_of sheet.recording.now) verdicts.items }
     ensures explaining { IfOk result (IsExplaining options.now sheet.entry.recording.now
@@ -198,15 +208,20 @@ fn explaining<H: Threads + Clock + Sync>(
         &asked,
         &mut sessions,
     )?;
-    let told = told(rt, alloc, keys, options, sheet, files, &asked, &sessions)?;
-    let Explanations { text, causes } = told;
+    let told = told_sessions(rt, alloc, keys, options, sheet, files, &asked, &sessions)?;
+    let Explanations {
+        text,
+        causes,
+        left_out,
+    } = told;
     let mut out = text;
     let summary = timed(figures.summary, seconds_since(rt, start));
     push_summary(alloc, &mut out, form_of(options), &summary, &causes)?;
-    Ok(Output {
+    let output = Output {
         status: figures.status,
         text: out,
-    })
+    };
+    Ok(Told { output, left_out })
 }
 
 /// The figures of the recording, with no time yet, and how the run ends.
@@ -246,28 +261,30 @@ fn timed(summary: Summary, seconds: u64) -> Summary
 }
 
 /// The explanations of those of the sessions that are shown, of those with the same fault at the same record once.
-fn told<H: Threads + Sync>(
+fn told_sessions<'o, H: Threads + Sync>(
     rt: &H,
     alloc: Global,
     keys: RandomState,
-    options: &ExplainOptions,
+    options: &'o ExplainOptions,
     sheet: Sheet<'_, '_>,
     files: &[InputFile],
     asked: &Asked,
     sessions: &[SessionVerdict],
-) -> Result<Explanations, Unexplained>
+) -> Result<Explanations<'o>, Unexplained>
     requires { AreAsked sheet.recording.now asked.now }
     ensures told { IfOk result (λ told. AddTexts sheet.entry.recording.now sheet.entry.lines.now
         (form_of options.now.form) files.now
         (tellings sheet.entry.recording.now options.now.pids (sessions_chosen
         sheet.entry.recording.now options.now.only options.now.pids sessions.now))
         [] (string_bytes told.text) [] told.causes.items) }
+    ensures left_out { IfOk result (λ told. pids_in told.left_out.items
+        ≡ pids_left_out sheet.entry.recording.now options.now.only sessions.now options.now.pids) }
     ensures none_missing { OnOk result (first_missing (pids_of sessions.now) options.now.pids
         ≡ None) }
     ensures missing { (number : ℕ) → result ≡ Err (NoSession number)
         → first_missing (pids_of sessions.now) options.now.pids ≡ Some number }
 {
-    let shown = chosen(alloc, keys, options, asked, sessions)?;
+    let ChosenSessions { shown, left_out } = chosen(alloc, keys, options, asked, sessions)?;
     let prepared = prepared_for(alloc, sheet.recording, asked, &shown)?;
     let told = tellings(
         sheet.recording,
@@ -297,5 +314,9 @@ fn told<H: Threads + Sync>(
         asked,
         &told,
     )?;
-    Ok(Explanations { text, causes })
+    Ok(Explanations {
+        text,
+        causes,
+        left_out,
+    })
 }

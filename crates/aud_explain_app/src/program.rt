@@ -1,5 +1,5 @@
 //! A whole run of `explain`: files in, explanations out.
-ghost use Rattle.std.specs.Prelude.{◌≡◌, ◌≢◌, ◌<◌, ◌≤◌, true, IfErr, IfOk, OnErr, Err, None, length, map, option_map};
+ghost use Rattle.std.specs.Prelude.{◌≡◌, ◌≢◌, ◌<◌, ◌≤◌, [], true, IfErr, IfOk, OnErr, Err, None, length, map, option_map};
 ghost use Rattle.std.specs.Io.KnownBytes.{Appends};
 ghost use Rattle.aud_base.specs.Written.{AppendsFront};
 ghost use Rattle.aud_base.specs.Watched.{inner_of, has_failed};
@@ -11,9 +11,10 @@ ghost use Rattle.aud_explain_app.specs.declared.fault.ExplainFault.TheVariants a
 ghost use Rattle.aud_explain_app.specs.declared.fault.ExplainFault.TheVariants.{Write};
 ghost use Rattle.aud_explain_app.specs.declared.fault.Unexplained.TheVariants.{Memory};
 
+use crate::ending::Ending;
 use crate::fault::{ExplainFault, Unexplained};
 use crate::html::in_form;
-use crate::output::{form_of, output_of};
+use crate::output::{Told, form_of, output_of};
 use crate::records::records_output;
 use crate::refused::refused_output;
 use crate::written::Layout;
@@ -33,16 +34,16 @@ use std::time::{Clock, Instant};
 
 /// What is told of the recording, where the lines of its records are these, in these files: the records that are named,
 /// or, where none is, its sessions.
-fn told_with<H: Threads + Wait + Clock + Sync>(
+fn told_with<'o, H: Threads + Wait + Clock + Sync>(
     rt: &H,
     alloc: Global,
     keys: RandomState,
-    options: &ExplainOptions,
+    options: &'o ExplainOptions,
     start: Option<Instant>,
     recorded: &Recorded,
     lines: &RecordLines,
     files: &[InputFile],
-) -> Result<Output, ExplainFault>
+) -> Result<Told<'o>, ExplainFault>
     requires names { AreNamedOnce recorded.now.taps }
     requires workers { (0 < options.now.workers) × (options.now.workers ≤ 64) }
     ensures told { IfOk result (IsAnswer options.now.records options.now
@@ -56,28 +57,38 @@ fn told_with<H: Threads + Wait + Clock + Sync>(
     }
     let form = form_of(options);
     let layout = Layout { form, files };
-    records_output(alloc, layout, recorded.taps.as_slice(), lines, records)
+    let output = records_output(alloc, layout, recorded.taps.as_slice(), lines, records)?;
+    Ok(all_of(alloc, output))
+}
+
+/// The output, with no session left out.
+fn all_of<'o>(alloc: Global, output: Output) -> Told<'o>
+    ensures output { result.output ≡ output }
+    ensures left_out { result.left_out.items ≡ [] }
+{
+    let left_out = Vec::new(alloc);
+    Told { output, left_out }
 }
 
 /// What is told of the recording, where it is this part, its lines named as those of the input that they come from, or a
 /// whole, whose files are those that the words name.
-fn told_of<H: Threads + Wait + Clock + Sync>(
+fn told_of<'o, H: Threads + Wait + Clock + Sync>(
     rt: &H,
     alloc: Global,
     keys: RandomState,
-    options: &ExplainOptions,
+    options: &'o ExplainOptions,
     start: Option<Instant>,
     recorded: &Recorded,
     part: Option<&PartLines>,
-) -> Result<Output, ExplainFault>
+) -> Result<Told<'o>, ExplainFault>
     requires names { AreNamedOnce recorded.now.taps }
     requires workers { (0 < options.now.workers) × (options.now.workers ≤ 64) }
-    ensures told { IfOk result (λ output.
+    ensures told { IfOk result (λ told.
         IsOf (option_map (λ part. part.now) part.entry) recorded.now.size
         × IsAnswer options.now.records options.now recorded.now.taps
         (lines_told (option_map (λ part. part.now) part.entry) recorded.now.lines)
         (files_told (option_map (λ part. part.now) part.entry) options.now.files
-        recorded.now.counts.items) recorded.now.size output) }
+        recorded.now.counts.items) recorded.now.size told) }
     ensures untold { IfErr result (IsUntold options.now
         (option_map (λ part. part.now) part.entry) recorded.now) }
 {
@@ -96,28 +107,30 @@ fn told_of<H: Threads + Wait + Clock + Sync>(
 }
 
 /// What is told of a line that is refused.
-fn told_refused(
+fn told_refused<'o>(
     alloc: Global,
-    options: &ExplainOptions,
+    options: &'o ExplainOptions,
     refused: &Refusal,
-) -> Result<Output, ExplainFault>
-    ensures told { IfOk result (λ output. output
+) -> Result<Told<'o>, ExplainFault>
+    ensures told { IfOk result (λ told. told.output
         ≡ refused_output (form_of options.now.form) options.now.files refused.now) }
+    ensures left_out { IfOk result (λ told. told.left_out.items ≡ []) }
     ensures fault { IfErr result (λ e. e ≡ fault.Unexplained Memory) }
 {
     let files = options.files.as_slice();
-    Ok(refused_output(alloc, form_of(options), files, refused)?)
+    let output = refused_output(alloc, form_of(options), files, refused)?;
+    Ok(all_of(alloc, output))
 }
 
 /// What is told of the files.
-fn told<H: Threads + Wait + Clock + Sync, R: Read>(
+fn told<'o, H: Threads + Wait + Clock + Sync, R: Read>(
     rt: &H,
     alloc: Global,
     keys: RandomState,
     files: &mut [Watched<R>],
-    options: &ExplainOptions,
+    options: &'o ExplainOptions,
     part: Option<&PartLines>,
-) -> Result<Output, ExplainFault>
+) -> Result<Told<'o>, ExplainFault>
     requires files { 0 < length files.old }
     requires workers { (0 < options.now.workers) × (options.now.workers ≤ 64) }
     ensures told { IfOk result (IsTold options.now (option_map (λ part. part.now) part.entry)
@@ -138,14 +151,14 @@ fn told<H: Threads + Wait + Clock + Sync, R: Read>(
 }
 
 /// What is written for the files.
-fn explained<H: Threads + Wait + Clock + Sync, R: Read>(
+fn explained<'o, H: Threads + Wait + Clock + Sync, R: Read>(
     rt: &H,
     alloc: Global,
     keys: RandomState,
     files: &mut [Watched<R>],
-    options: &ExplainOptions,
+    options: &'o ExplainOptions,
     part: Option<&PartLines>,
-) -> Result<Output, ExplainFault>
+) -> Result<Told<'o>, ExplainFault>
     requires files { 0 < length files.old }
     requires workers { (0 < options.now.workers) × (options.now.workers ≤ 64) }
     ensures explanation { IfOk result (IsExplanation options.now
@@ -154,8 +167,9 @@ fn explained<H: Threads + Wait + Clock + Sync, R: Read>(
     ensures untold { IfErr result (AreUntold options.now (option_map (λ part. part.now) part.entry)
         (map (λ file. R.remaining (inner_of file)) files.old)) }
 {
-    let told = told(rt, alloc, keys, files, options, part)?;
-    Ok(in_form(alloc, options.form, told)?)
+    let Told { output, left_out } = told(rt, alloc, keys, files, options, part)?;
+    let output = in_form(alloc, options.form, output)?;
+    Ok(Told { output, left_out })
 }
 
 /// Reads the files one after the other as one input, decides, and only then writes. The files are those that the words
@@ -171,18 +185,19 @@ fn explained<H: Threads + Wait + Clock + Sync, R: Read>(
 /// and nor do the keys, by which names are looked up: whoever picked the names of the input is not to know them.
 ///
 /// The recording is not dropped, since a program that explains ends soon.
-pub fn explain<H: Threads + Wait + Clock + Sync, R: Read, W: Write>(
+pub fn explain<'o, H: Threads + Wait + Clock + Sync, R: Read, W: Write>(
     rt: &H,
     alloc: Global,
     keys: RandomState,
     files: &mut [Watched<R>],
     output: &mut Watched<W>,
-    options: &ExplainOptions,
+    options: &'o ExplainOptions,
     part: Option<&PartLines>,
-) -> Result<Status, ExplainFault>
+) -> Result<Ending<'o>, ExplainFault>
     requires files { 0 < length files.old }
     requires workers { (0 < options.now.workers) × (options.now.workers ≤ 64) }
-    // What was written is the output over the files, whole, and the run ends as that output does.
+    // What was written is the output over the files, whole, and the run ends as that output does, with the pids that
+    // `--only` leaves out.
     ensures ok { IfOk result (Writes (W.contents (inner_of output.old))
         (W.contents (inner_of output.new)) (IsExplanation options.now
         (option_map (λ part. part.now) part.entry)
@@ -203,7 +218,15 @@ pub fn explain<H: Threads + Wait + Clock + Sync, R: Read, W: Write>(
         (map (λ file. R.remaining (inner_of file)) files.old) e) }
 {
     match explained(rt, alloc, keys, files, options, part) {
-        Ok(explained) => written(output, &explained),
+        Ok(
+            Told {
+                output: told,
+                left_out,
+            },
+        ) => {
+            let status = written(output, &told)?;
+            Ok(Ending { status, left_out })
+        }
         Err(fault) => Err(fault),
     }
 }

@@ -6,7 +6,7 @@ use Rattle.aud_explanation.specs.declared.name.Names.{Names}
 use Rattle.aud_explanation.specs.declared.name.Names.TheVariants.{Short}
 use Rattle.aud_explanation.specs.Named.{name_words}
 use Rattle.aud_rows.specs.declared.row.Says.{Says}
-use Rattle.aud_rows.specs.declared.row.Says.TheVariants.{Entry, Start, Take, Takes, Open, Join, Leave, Break, Back, Gone, Asks, Reply, Got, Lost, NoPacket}
+use Rattle.aud_rows.specs.declared.row.Says.TheVariants.{Entry, Start, Take, Takes, Open, Join, Leave, Break, Back, Gone, Asks, Reply, Got, Lost, Lacks, NoPacket}
 
 -- the session of a reply
 abbrev pub pid_words : Names → Option (Bor (List ℕ)) → List ℕ
@@ -47,6 +47,10 @@ abbrev pub open_words : Names → List ℕ → List ℕ → ℕ → List ℕ
 open_words names sid nsp cursor =
     codes "open, sid " ++ name_words names sid ++ codes ", namespace " ++ name_words names nsp ++ codes ", cursor " ++ decimal cursor
 
+-- how many attachments a packet lacks
+unfoldable pub lacks_words : ℕ → ℕ → List ℕ
+lacks_words conn missing = codes "conn " ++ decimal conn ++ codes " packet, attachments missing: " ++ decimal missing
+
 -- what the record says, with long names whole or short
 abbrev pub record_text : Names → Says → List ℕ
 record_text names (Entry position off) = codes "entry " ++ entry_words names position off.now
@@ -63,6 +67,7 @@ record_text names (Asks conn pid off) = asks_words names conn pid.now off
 record_text names (Reply conn sid pid) = reply_words names conn sid.now pid
 record_text names (Got conn position off) = codes "conn " ++ decimal conn ++ codes " got " ++ entry_words names position off.now
 record_text names (Lost conn) = codes "conn " ++ decimal conn ++ codes " lost"
+record_text names (Lacks conn missing) = lacks_words conn missing
 record_text names (NoPacket conn) = codes "conn " ++ decimal conn ++ codes " no packet"
 
 -- the session that a record speaks of, where it isn't the one with this pid

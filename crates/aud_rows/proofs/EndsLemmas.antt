@@ -20,7 +20,7 @@ use Rattle.aud_rows.proofs.TrueRows.{SaysAt}
 
 module _ (c : Cluster) where
   -- what is said of the tap's records is said at its place
-  in_the_tap : (place : ℕ) (gives : Option (List ClientRec) → Option Said) → ((said : Said) → gives None ≡ Some said → ⊥)
+  pub in_the_tap : (place : ℕ) (gives : Option (List ClientRec) → Option Said) → ((said : Said) → gives None ≡ Some said → ⊥)
       → ((recs : List ClientRec) (said : Said) → gives (Some recs) ≡ Some said → ClientSays c.stream recs said.0 said.1)
       → (said : Said) → gives (client_at c place) ≡ Some said → SaysAt c place said.0 said.1
   in_the_tap place gives none some said e tap there = go tap.records (subst (λ o. gives o ≡ Some said) (ap (option_and_then client_recs) there) e)

@@ -1,3 +1,4 @@
 pub mod TrueRows
 pub mod Stays
 pub mod EndsLemmas
+pub mod LackingLemmas

@@ -6,6 +6,7 @@ pub mod Seen
 pub mod NodeSays
 pub mod StreamSays
 pub mod Marks
+pub mod Lacking
 pub mod ClientSays
 pub mod ClientPlaces
 pub mod TrueRow

@@ -23,6 +23,7 @@ pub data SaysSeen : Type 0 where
   Reply : ℕ → Text → Option Text → SaysSeen
   Got : ℕ → ℕ → Text → SaysSeen
   Lost : ℕ → SaysSeen
+  Lacks : ℕ → ℕ → SaysSeen
   NoPacket : ℕ → SaysSeen
 
 -- a row: the line that its record stands on, the name of its tap, the session that it speaks of, what it says, and what
@@ -50,6 +51,7 @@ says_seen (row.Asks conn pid off) = Asks conn pid.now (option_map (λ text. text
 says_seen (row.Reply conn sid pid) = Reply conn sid.now (option_map (λ text. text.now) pid)
 says_seen (row.Got conn position off) = Got conn position off.now
 says_seen (row.Lost conn) = Lost conn
+says_seen (row.Lacks conn missing) = Lacks conn missing
 says_seen (row.NoPacket conn) = NoPacket conn
 
 abbrev pub row_seen : Row → RowSeen

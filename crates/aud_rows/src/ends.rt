@@ -47,7 +47,7 @@ pub fn bad_said<'r>(recs: &[ClientRec], marks: &[usize], number: usize) -> Optio
 }
 
 /// The number of the connection that goes on in front of the record with this number.
-fn open_before(recs: &[ClientRec], marks: &[usize], number: usize) -> Option<u64>
+pub fn open_before(recs: &[ClientRec], marks: &[usize], number: usize) -> Option<u64>
     requires { marks.now ≡ marks_of recs.now }
     ensures { result ≡ open_before recs.now number }
 {

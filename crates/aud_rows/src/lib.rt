@@ -20,6 +20,7 @@
 mod client;
 mod client_places;
 mod ends;
+mod lacking;
 mod node;
 mod row;
 mod sheet;

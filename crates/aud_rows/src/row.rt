@@ -84,6 +84,11 @@ pub enum Says<'r> {
     Lost {
         conn: u64,
     },
+    /// The client receives a packet that still lacks so many attachments when a text comes.
+    Lacks {
+        conn: u64,
+        missing: u8,
+    },
     /// The client's record is no packet.
     NoPacket {
         conn: u64,

@@ -1,22 +1,25 @@
 //! The rows of a recording's records.
-ghost use Rattle.std.specs.Prelude.{◌≡◌, IfSome, slice_get};
+ghost use Rattle.std.specs.Prelude.{◌≡◌, IfOk, IfSome, slice_get};
 ghost use Rattle.std.specs.Option.{option_copied, option_map};
 ghost use Rattle.aud_rows.specs.Seen.{row_seen, says_seen};
 ghost use Rattle.aud_rows.specs.Rows.{node_row, row_of, said_row, stream_row};
 ghost use Rattle.aud_rows.specs.StayRows.{ask_row, asked_at, first_row, frame_row, got_at, replied_at, reply_row, stays_at};
 ghost use Rattle.aud_rows.specs.ClientPlaces.{AreOf, places_at};
 ghost use Rattle.aud_rows.specs.EndRows.{bad_at, bad_row, lost_at, lost_row};
+ghost use Rattle.aud_rows.specs.Lacking.{lacking_at, lacking_row};
 ghost use Rattle.aud_rows.specs.TrueRow.{IsTrueRow};
 ghost use Rattle.aud_rows.specs.Private.SaidAt.{said_seen};
 
 use crate::client::{SaidAt, ask_said, frame_said, reply_said};
 use crate::client_places::ClientPlaces;
 use crate::ends::{bad_said, lost_past};
+use crate::lacking::lacking_said;
 use crate::node::{node_says_at, session_of};
 use crate::row::{Role, Row, Says};
 use crate::stream::entry_says;
 use aud_client::{Recording, Stay, StayPlaces};
 use aud_input::RecordLines;
+use std::alloc::{AllocError, Global};
 
 /// A recording with the lines of its records, both borrowed: what rows are made of. The lines are those of the input
 /// from which the recording was read.
@@ -136,6 +139,27 @@ impl<'r, 'a> Sheet<'r, 'a> {
         self.said_row(tap.place, role, said)
     }
 
+    /// The row of an earlier packet that the text of that record spoils, since it still lacks attachments; none where
+    /// no text of it does.
+    pub fn lacking_row(
+        &self,
+        alloc: Global,
+        tap: &ClientPlaces,
+        role: Role,
+    ) -> Result<Option<Row<'r>>, AllocError>
+        requires { AreOf self.now.recording.now tap.now }
+        ensures row { IfOk result (λ row. option_map row_seen row
+            ≡ lacking_row self.now.recording.now self.now.lines.now tap.now.place role) }
+        ensures truth { IfOk result (λ row. IfSome row
+            (IsTrueRow self.now.recording.now self.now.lines.now)) }
+    {
+        let found = self.lacking(alloc, tap)?;
+        match found {
+            Some(said) => Ok(self.said_row(tap.place, role, said)),
+            None => Ok(None),
+        }
+    }
+
     fn asked(&self, tap: &ClientPlaces, stay: usize) -> Option<SaidAt<'r>>
         ensures { option_map said_seen result ≡ asked_at self.now.recording.now tap.now.place stay }
     {
@@ -178,6 +202,23 @@ impl<'r, 'a> Sheet<'r, 'a> {
         let recs = self.recording.logs().client(tap.place)?;
         let number = self.recording.client(tap.place)?.transcript().bad?;
         bad_said(recs, tap.marks.as_slice(), number)
+    }
+
+    fn lacking(&self, alloc: Global, tap: &ClientPlaces) -> Result<Option<SaidAt<'r>>, AllocError>
+        requires { AreOf self.now.recording.now tap.now }
+        ensures { IfOk result (λ said. option_map said_seen said
+            ≡ lacking_at self.now.recording.now tap.now.place) }
+    {
+        let (Some(recs), Some(client)) = (
+            self.recording.logs().client(tap.place),
+            self.recording.client(tap.place),
+        ) else {
+            return Ok(None);
+        };
+        match client.transcript().bad {
+            Some(number) => lacking_said(alloc, recs, tap.marks.as_slice(), number),
+            None => Ok(None),
+        }
     }
 
     /// The stay with this number of the client's tap at this place.

@@ -8,7 +8,7 @@ use crate::source::{Source, bytes_in, first_and_others, unread};
 use crate::{fail, fail_for, status_code};
 use aud_app::{RunFault, Watched};
 use aud_cli::{ExplainOptions, explain_asked};
-use aud_explain_app::{ExplainFault, Unexplained, explain};
+use aud_explain_app::{Ending, ExplainFault, Unexplained, explain};
 use aud_explanation::printed;
 use aud_input::{PartLines, Size};
 use aud_parts::{LinesFault, read_lines};
@@ -208,6 +208,18 @@ fn no_record(rt: &impl Eprint, alloc: Global, options: &ExplainOptions, number: 
     ExitCode::from(4)
 }
 
+/// Says which sessions of the arguments `--only` leaves out.
+fn ended(rt: &impl Eprint, alloc: Global, ending: &Ending<'_>) -> ExitCode {
+    for pid in &ending.left_out {
+        let Ok(pid) = printed(alloc, pid) else {
+            return fail(rt, RunFault::Memory);
+        };
+        let pid = pid.as_str();
+        let _ = eprintln!(rt; "sioaudit: --only leaves out the session {pid}");
+    }
+    status_code(ending.status)
+}
+
 /// Explains what the arguments ask for, on the threads of `rt`.
 pub fn explanation<H: Threads + Wait + Clock + Sync>(
     rt: &H,
@@ -232,7 +244,7 @@ pub fn explanation<H: Threads + Wait + Clock + Sync>(
     let mut output = Watched::new(host.stdout());
     let named = part.as_ref();
     match explain(rt, alloc, keys, &mut files, &mut output, &options, named) {
-        Ok(status) => status_code(status),
+        Ok(ending) => ended(host, alloc, &ending),
         Err(fault) => {
             let os_error = output.os_error();
             failed(host, alloc, &options, &part, &files, os_error, fault)

@@ -24,7 +24,7 @@ use Rattle.aud_causes.specs.declared.cause.Cause.TheVariants as cause
 use Rattle.aud_causes.specs.declared.facts.Facts.{Facts}
 use Rattle.aud_causes.specs.declared.facts.Replay.{Replay}
 use Rattle.aud_causes.specs.AtBreak.{first_came, first_taken, is_by_rooms_at_break, rooms_at_break}
-use Rattle.aud_causes.specs.Behind.{behind, behind_at, first_of, last_of, node_behind}
+use Rattle.aud_causes.specs.Behind.{behind, behind_at, first_of, last_of, last_reached, node_behind}
 use Rattle.aud_causes.specs.Bodies.{are_equal_bodies, body_before, body_twice, equal_bodies, is_one_body, last_record, places_at, record_of}
 use Rattle.aud_causes.specs.Changed.{fits_with, fits_with_any}
 use Rattle.aud_causes.specs.Delivery.{doubled_in_replay, doubled_live, is_in_replay, is_live, is_outside, is_replayed, is_taken_live, is_this, lost_live, replay_includes_offset, sent_again, skipped_in_window, stale_offset, swapped_in_replay, swapped_live}
@@ -45,9 +45,9 @@ module _ (p : Cause → Bool) where
       (of_then p (λ before. option_and_then (behind c f.parted.position before) (slice_get turns f.later))
       (λ before.
       of_then p (behind c f.parted.position before)
-      (λ t. of_if p (nat_lt t.low f.parted.position && nat_le f.parted.position before.high) (cause.NodeBehindBreak (last_of c before) (first_of c t) before.high t.low) (has (last_of c before) (first_of c t) before.high t.low))
+      (λ t. of_if p (nat_lt t.low f.parted.position) (cause.NodeBehindBreak (last_of c before) (first_of c t) before.high t.low) (has (last_of c before) (first_of c t) before.high t.low))
       (slice_get turns f.later))
-      (slice_get turns (f.later - 1)))
+      (last_reached f.parted.position (take f.later turns)))
       tt
 
   rooms_listed : ((stay after low : ℕ) → p (cause.RoomsAtBreak stay after low) ≡ true) → (c : Cluster) (who : Who) (turns : List Turn) (stays : List StaySeen) (f : Facts)

@@ -1,7 +1,7 @@
 //! What a record says, in words, and of which session.
 ghost use Rattle.std.specs.Prelude.{◌≡◌, ◌++◌, OnOk, string_bytes};
 ghost use Rattle.std.specs.Option.{option_copied};
-ghost use Rattle.aud_explanation.specs.Record.{other_session, of_words, record_text, pid_words, after_words, asks_words, entry_words, names_words, open_words, reply_words, takes_up, takes_words};
+ghost use Rattle.aud_explanation.specs.Record.{other_session, of_words, record_text, pid_words, after_words, asks_words, entry_words, lacks_words, names_words, open_words, reply_words, takes_up, takes_words};
 
 use crate::name::{Names, push_name};
 use aud_rows::Says;
@@ -151,6 +151,15 @@ fn push_open(
     write!(out, ", cursor {cursor}")
 }
 
+/// Puts how many attachments a packet lacks at the end.
+#[tactic(auto, unfolding(crate::specs::Record::lacks_words))]
+fn push_lacks(out: &mut String, conn: u64, missing: u8) -> Result<(), AllocError>
+    ensures { OnOk result (string_bytes out.new
+        ≡ string_bytes out.old ++ lacks_words conn missing) }
+{
+    write!(out, "conn {conn} packet, attachments missing: {missing}")
+}
+
 /// Puts what a record says at the end.
 pub(crate) fn push_record(
     alloc: Global,
@@ -195,6 +204,7 @@ pub(crate) fn push_record(
             push_entry(alloc, out, names, position, off)
         }
         Says::Lost { conn } => write!(out, "conn {conn} lost"),
+        Says::Lacks { conn, missing } => push_lacks(out, conn, missing),
         Says::NoPacket { conn } => write!(out, "conn {conn} no packet"),
     }
 }

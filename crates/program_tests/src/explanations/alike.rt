@@ -31,7 +31,7 @@ c1 {"k":"in","t":"40/q,{\"sid\":\"s2\",\"pid\":\"Q\"}"}
 ];
 
 /// What is written of each of them; what comes after the common lines stands in a second file.
-static CASES: [&str; 9] = [
+static CASES: [&str; 10] = [
     r#"explain
 @FOUR
 -> Ok(SomeNo)
@@ -50,7 +50,7 @@ sessions: 4, yes: 0, no: 4
   cause restarted-in-old-log: 4
 sessions that no client named: 4
 *"#,
-    // Another node starts again too. R was on both; of T the other one tells it.
+    // Another node starts again too. R was on both, which are its causes; of T the other one tells it.
     r#"explain --only ORDER
 @FOUR
 a {"k":"break","pid":"R","turn":0}
@@ -65,9 +65,21 @@ no one client, turns 1, delivery not judged
     line tap  record
        7 a    open, sid s4, namespace /, cursor 0 of S  earlier
        8 a    start, cursor 0  <- out of order
-    the same of 3 more sessions: Q R S
+    the same of 2 more sessions: Q S
     turn 0  a  4 open, cursor 0 == 9 log ends, cursor 0
 cause restarted-in-old-log (certain, line 8): a started again in its old log.
+do: begin a new log, of another name, each time that a node starts.
+
+no R ORDER [recording]
+no one client, turns 2, delivery not judged
+    line tap  record
+       7 a    open, sid s4, namespace /, cursor 0 of S  earlier
+       8 a    start, cursor 0  <- out of order
+    turn 0  a  6 open, cursor 0 == 9 break, cursor 0
+    turn 1  b  13 back, cursor 0 == 14 log ends, cursor 0
+cause restarted-in-old-log (holds, line 8): a started again in its old log.
+do: begin a new log, of another name, each time that a node starts.
+cause restarted-in-old-log (holds, line 14): b started again in its old log.
 do: begin a new log, of another name, each time that a node starts.
 
 no T ORDER [recording]
@@ -108,6 +120,13 @@ no one client, turns 1, delivery not judged
        8 a    start, cursor 0  <- out of order
     turn 0  a  5 open, cursor 0 == 8 log ends, cursor 0
 refused recovery: got no session, missed: not known
+*"#,
+    // Those that are asked for and left out are named once, in the order of the words.
+    r#"explain --pid Q --pid P --pid Q --only LOST
+@FOUR
+-> Ok(SomeNo) without Q without P
+sessions: 4, yes: 0, no: 4
+  recording 4: ORDER 4
 *"#,
     // Those that are asked for are told each.
     r#"explain --pid S --pid P

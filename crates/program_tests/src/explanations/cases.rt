@@ -2,16 +2,15 @@
 //!
 //! The first line of a case is the arguments. The second has what is read: `@A B` the files with these texts, and what
 //! stands below is one more; or `2 1 c1@1 e:a` the bundle of a simulated cluster of so many nodes and clients, which
-//! runs this schedule. After `-> ` comes how the run ends, and below it what is written, where each `*` stands for
-//! what is not told. It may be the text of a name too, as `@A`.
+//! runs this schedule. After `-> ` comes how the run ends, with `without P` for each session that is left out, and below
+//! it what is written, where each `*` stands for what is not told. It may be the text of a name too, as `@A`.
 use crate::arguments::words_of;
 use crate::case::cut;
 use crate::clusters::bundle_of;
 use crate::explanations::bundles::named;
 use aud_base::Watched;
 use aud_cli::explain_asked;
-use aud_explain_app::{ExplainFault, explain};
-use aud_verdict::Status;
+use aud_explain_app::{Ending, ExplainFault, explain};
 use std::alloc::{AllocError, Global};
 use std::hash::RandomState;
 use std::process::Abort;
@@ -22,7 +21,7 @@ use std::thread::Threads;
 use std::time::Clock;
 
 /// How a run ends.
-type Outcome = Result<Status, ExplainFault>;
+type Outcome<'o> = Result<Ending<'o>, ExplainFault>;
 
 /// Asserts that each case is as it says.
 pub fn assert_cases<H: Abort + Threads + Wait + Clock + RandomSource + Sync>(
@@ -113,13 +112,28 @@ fn explained<H: Threads + Wait + Clock + RandomSource + Sync>(
     let options = explain_asked(alloc, &words)?;
     let mut output = Watched::new(Vec::new(alloc));
     let outcome = explain(rt, alloc, keys, &mut files, &mut output, &options, None);
-    told(alloc, outcome, output.into_inner().as_slice())
+    told(alloc, &outcome, output.into_inner().as_slice())
 }
 
-/// How a run ended, and below it what it wrote.
-fn told(alloc: Global, outcome: Outcome, written: &[u8]) -> Result<String, Fail> {
+/// How a run ended, with the pids that are left out, and below it what it wrote.
+fn told(alloc: Global, outcome: &Outcome<'_>, written: &[u8]) -> Result<String, Fail> {
     let written = str::from_utf8(written)?;
-    Ok(format!(in alloc; "{outcome:?}\n{written}")?)
+    let mut out = String::new(alloc);
+    match outcome {
+        Ok(ending) => push_ending(&mut out, ending)?,
+        Err(fault) => write!(out, "Err({fault:?})")?,
+    }
+    write!(out, "\n{written}")?;
+    Ok(out)
+}
+
+fn push_ending(out: &mut String, ending: &Ending<'_>) -> Result<(), AllocError> {
+    let status = ending.status;
+    write!(out, "Ok({status:?})")?;
+    for pid in &ending.left_out {
+        write!(out, " without {pid}")?;
+    }
+    Ok(())
 }
 
 /// Whether this is the text, with anything in the place of each `*`.

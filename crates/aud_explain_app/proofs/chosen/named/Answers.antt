@@ -3,7 +3,8 @@ use Rattle.std.specs.List.{list_any}
 use Rattle.std.proofs.lemmas.List.{get_or_default}
 use Rattle.aud_base.specs.FirstTexts.{with_text, with_texts}
 use Rattle.aud_base.proofs.FirstTexts.{with_texts-one}
-use Rattle.aud_explain_app.specs.Chosen.{session_of, within_of}
+use Rattle.aud_explain_app.specs.Chosen.{left_out_of, session_of, within_of}
+use Rattle.aud_explain_app.specs.Output.{pids_in}
 use Rattle.aud_explain_app.specs.Strangers.{has_pid, pids_of}
 use Rattle.aud_explain_app.proofs.Missing.{first_here, has_found, none_more, same_fault, same_number}
 use Rattle.aud_explain_app.proofs.Once.{flat_once}
@@ -34,9 +35,17 @@ loop-number-preserved c =
       named = λ cluster asked.
           let f = λ (p : List ℕ). within_of cluster c.args.only (session_of c.args.sessions.now p) in
           c.in_ok-push_once.ensures.found cluster asked
-          ∙ ap (λ texts. map (λ session. session.now) c.loop-number.found.items ++ cond (list_any (bytes_eq text) texts) [] (within_of cluster c.args.only (Some c.in-Some.session.now))) before.seen
-          ∙ ap (λ s. map (λ session. session.now) c.loop-number.found.items ++ cond (list_any (bytes_eq text) seen) [] (within_of cluster c.args.only s)) there
+          ∙ ap (λ texts. map (λ session. session.now) c.loop-number.found.shown.items ++ cond (list_any (bytes_eq text) texts) [] (within_of cluster c.args.only (Some c.in-Some.session.now))) before.seen
+          ∙ ap (λ s. map (λ session. session.now) c.loop-number.found.shown.items ++ cond (list_any (bytes_eq text) seen) [] (within_of cluster c.args.only s)) there
           ∙ ap (λ sessions. sessions ++ cond (list_any (bytes_eq text) seen) [] (f text)) (before.named cluster asked)
+          ∙ sym (flat_once f seen text)
+          ∙ ap (flat_map f) more;
+      left_out = λ cluster asked.
+          let f = λ (p : List ℕ). left_out_of cluster c.args.only p (session_of c.args.sessions.now p) in
+          c.in_ok-push_once.ensures.left_out cluster asked
+          ∙ ap (λ texts. pids_in c.loop-number.found.left_out.items ++ cond (list_any (bytes_eq text) texts) [] (left_out_of cluster c.args.only text (Some c.in-Some.session.now))) before.seen
+          ∙ ap (λ s. pids_in c.loop-number.found.left_out.items ++ cond (list_any (bytes_eq text) seen) [] (left_out_of cluster c.args.only text s)) there
+          ∙ ap (λ pids. pids ++ cond (list_any (bytes_eq text) seen) [] (f text)) (before.left_out cluster asked)
           ∙ sym (flat_once f seen text)
           ∙ ap (flat_map f) more;
       none_missing = none_more (λ p. not (has_pid known p)) pids c.loop-number.number c.index-pids-number.result (omega arith) before.none_missing (ap not here);

@@ -1,9 +1,9 @@
-use Rattle.std.proofs.Common.{[], ◌++◌, Err, string_bytes, refl, sym, ap, subst, ◌∙◌}
+use Rattle.std.proofs.Common.{◌≡◌, [], ◌++◌, Err, string_bytes, refl, sym, ap, subst, ◌∙◌}
 use Rattle.std.proofs.lemmas.Result.{err_from_is_err_and}
 use Rattle.aud_explain_app.specs.Alike.{tellings}
-use Rattle.aud_explain_app.specs.Chosen.{sessions_chosen}
+use Rattle.aud_explain_app.specs.Chosen.{pids_left_out, sessions_chosen}
 use Rattle.aud_explain_app.specs.Missing.{first_missing}
-use Rattle.aud_explain_app.specs.Output.{AreFigures, form_of, summary_in}
+use Rattle.aud_explain_app.specs.Output.{AreFigures, form_of, pids_in, summary_in}
 use Rattle.aud_explain_app.specs.Strangers.{pids_of}
 use Rattle.aud_explain_app.specs.Texts.{AddTexts}
 use Rattle.aud_explain_app.proofs.Missing.{known_pids, same_fault}
@@ -38,4 +38,5 @@ returns-clause-explaining g c =
       seconds = c.seconds_since.result;
       text_is = c.in_ok-push_summary.ensures ∙ (λ i. text ++ summary_in (c.form_of.ensures i) (c.timed-summary.ensures i) (c.deref-3.ensures.value i));
       status_is = refl;
+      left_out_are = subst (λ sessions. pids_in c.in_ok-told.told.left_out.items ≡ pids_left_out recording options.only sessions options.pids) c.deref-2.ensures.value c.in_ok-told.ensures.left_out;
     }
