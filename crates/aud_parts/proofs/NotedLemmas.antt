@@ -1,5 +1,5 @@
 -- The taps of an index, with one line more.
-use Rattle.std.proofs.Common.{◌≡◌, ℕ, zero, suc, ◌+◌, ◌==◌, ◌&&◌, List, [], ◌∷◌, ◌++◌, length, map, set, Bool, true, false, cond, ◌⊎◌, inl, inr, Option, Some, None, option_map, is_some, slice_get, bytes_eq, refl, sym, ap, ◌∙◌, subst, arith, ◌||◌}
+use Rattle.std.proofs.Common.{◌≡◌, ℕ, zero, suc, ◌==◌, ◌&&◌, List, [], ◌∷◌, ◌++◌, length, map, set, Bool, true, false, cond, ◌⊎◌, inl, inr, Option, Some, None, option_map, is_some, slice_get, bytes_eq, refl, sym, ap, ◌∙◌, subst, arith, ◌||◌}
 use Rattle.std.specs.List.{list_any}
 use Rattle.std.specs.Option.{option_and_then}
 use Rattle.std.proofs.lemmas.Bool.{and_parts, eqb-true, false≢true}

@@ -7,7 +7,7 @@ use Rattle.aud_reader.specs.Lines.{is_too_long, line_pieces, onto_first, without
 use Rattle.aud_input.specs.LineName.{name_of}
 use Rattle.aud_parts.specs.declared.tap_index.tap_runs.Run.{Run}
 use Rattle.aud_parts.specs.TapRuns.{TapRuns, run_bytes}
-use Rattle.aud_parts.specs.IndexSoFar.{Indexed, Noted, PlacedLine, byte_count, changed, longer, none_indexed, noted, noted_at, one_or_two, place_in, placed_files, placed_lines, run_of, with_bytes, with_line, with_lines, with_name, with_run}
+use Rattle.aud_parts.specs.IndexSoFar.{Indexed, Noted, PlacedLine, byte_count, changed, longer, none_indexed, noted_at, one_or_two, place_in, placed_files, placed_lines, run_of, with_bytes, with_line, with_lines, with_name, with_run}
 use Rattle.aud_parts.proofs.PieceLemmas.{bytes-push, pieces-few}
 
 -- the run begins in its file, and its number is no more than the bytes before it are

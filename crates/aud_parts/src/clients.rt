@@ -32,11 +32,6 @@ use std::thread::Threads;
 /// by itself.
 const MOST_HELD: u64 = 33_554_432;
 
-/// How many bytes a client's tap has in a part, where its lines have so many.
-fn bytes_in_part(header: usize, first: u64, bytes: u64) -> u64 {
-    bytes.saturating_sub(first).saturating_add(header as u64)
-}
-
 /// What a client's tap tells whose lines have so many bytes, and the first of them so many; none where they are read as
 /// no such tap.
 fn measure(
@@ -57,8 +52,8 @@ fn measure(
         return Ok(None);
     };
     let facts = client_facts(alloc, records.as_slice(), stream)?;
-    let header = client_header(alloc, tap.name())?;
-    let bytes = bytes_in_part(header.len(), first, bytes);
+    let header = client_header(alloc, tap.name())?.len() as u64;
+    let bytes = bytes.saturating_sub(first).saturating_add(header);
     Ok(Some(MeasuredClient { facts, bytes }))
 }
 

@@ -3,7 +3,7 @@ pub mod fault;
 pub mod laws;
 pub mod report_lines;
 
-ghost use Rattle.std.specs.Prelude.{◌≡◌, ◌<◌, ◌+◌, ◌^◌, ◌++◌, if◌then◌else◌, slice_get, List, ℕ, IfOk, IfSome, IsTrue, OnOk, map, option_map, option_to_list, is_some, length, replicate, take};
+ghost use Rattle.std.specs.Prelude.{◌≡◌, ◌<◌, ◌+◌, ◌^◌, ◌++◌, [], slice_get, List, ℕ, IfOk, IfSome, IsTrue, OnOk, map, option_map, option_to_list, is_some, length, replicate, take};
 ghost use Rattle.std.specs.List.{list_all};
 ghost use Rattle.aud_base.specs.Places.{places_of};
 ghost use Rattle.aud_parts.specs.Listing.{are_within, is_within};
@@ -11,11 +11,12 @@ ghost use Rattle.aud_parts.specs.Merged.{told, answer_of, merged, merged_lines, 
 ghost use Rattle.aud_parts.specs.Private.PartPlaces.{places_by_first};
 ghost use Rattle.aud_parts.specs.Private.Slots.{fault_with, slots_with, slots_of, report_faults, missing_in, lines_in, all_in, left_in, next_after};
 
-use crate::listing::by_part::{LentText, part_of, pids_by_part, places_by_first};
+use crate::listing::by_part::{part_of, pids_by_part, places_by_first};
 use crate::listing::{ListedSession, Listing};
 use crate::merging::fault::{MergeFault, ReportFault};
 use crate::merging::report_lines::{ReportLine, are_all_yes, report_in, report_of};
 use aud_base::{Bytes, Listed, Places};
+use aud_tap::Text;
 use std::alloc::{AllocError, Global};
 use std::hash::RandomState;
 
@@ -38,35 +39,8 @@ pub enum MergeAnswer {
     Faults(Listed<MergeFault>),
 }
 
-/// The part that a report is of, and its lines.
-type Told<'a> = (usize, Listed<ReportLine<'a>>);
-
 /// Of each part the lines of its report, once it came.
 type Slots<'a> = Vec<Option<Listed<ReportLine<'a>>>>;
-
-/// The part that a report is of, and its lines; or what is wrong with it by itself.
-#[tactic(auto, unfolding(crate::specs::Merged::told))]
-fn told<'a>(
-    alloc: Global,
-    parts: &[Vec<LentText<'_>>],
-    index: &Places,
-    text: &'a [u8],
-) -> Result<Result<Told<'a>, ReportFault>, AllocError>
-    requires { (pid : List ℕ) → places_of index.now pid
-        ≡ places_by_first (map (λ part. part.items) parts.now) pid }
-    ensures { IfOk result (λ answer. answer ≡ told (map (λ part. part.items) parts.now) text.now) }
-{
-    if text.starts_with(b"line ") {
-        return Ok(Err(ReportFault::Refused));
-    }
-    let Some(lines) = report_in(alloc, text)? else {
-        return Ok(Err(ReportFault::NotWhole));
-    };
-    match part_of(parts, index, lines.as_slice()) {
-        Some(part) => Ok(Ok((part, lines))),
-        None => Ok(Err(ReportFault::OtherSplit)),
-    }
-}
 
 /// Whether the part has a report.
 fn has_report(slots: &[Option<Listed<ReportLine<'_>>>], part: usize) -> bool
@@ -78,28 +52,38 @@ fn has_report(slots: &[Option<Listed<ReportLine<'_>>>], part: usize) -> bool
     }
 }
 
-/// Puts what a report tells to its part, or what is wrong with it to the faults.
-fn take_told<'a>(
+/// Takes in a report: puts its lines to its part, or tells what is wrong with it.
+#[tactic(auto, unfolding(crate::specs::Merged::told))]
+fn take_report<'a>(
+    alloc: Global,
+    parts: &[Vec<Text>],
+    index: &Places,
+    text: &'a [u8],
     slots: &mut Slots<'a>,
-    faults: &mut Vec<MergeFault>,
-    number: usize,
-    told: Result<Told<'a>, ReportFault>,
-) -> Result<(), AllocError>
-    ensures slots { OnOk result (slots.new.items ≡ slots_with slots.old.items told.entry) }
-    ensures faults { OnOk result (faults.new.items ≡ faults.old.items ++ option_to_list
-        (option_map (MergeFault.Report number) (fault_with slots.old.items told.entry))) }
+) -> Result<Option<ReportFault>, AllocError>
+    requires { (pid : List ℕ) → places_of index.now pid
+        ≡ places_by_first (map (λ part. part.items) parts.now) pid }
+    ensures slots { OnOk result (slots.new.items ≡ slots_with slots.old.items
+        (told (map (λ part. part.items) parts.now) text.now)) }
+    ensures fault { IfOk result (λ fault. fault ≡ fault_with slots.old.items
+        (told (map (λ part. part.items) parts.now) text.now)) }
 {
-    match told {
-        Err(fault) => faults.push(MergeFault::Report(number, fault))?,
-        Ok((part, lines)) => {
-            if has_report(slots, part) {
-                faults.push(MergeFault::Report(number, ReportFault::Doubled))?;
-            } else if part < slots.len() {
-                slots[part] = Some(lines);
-            }
-        }
+    if text.starts_with(b"line ") {
+        return Ok(Some(ReportFault::Refused));
     }
-    Ok(())
+    let Some(lines) = report_in(alloc, text)? else {
+        return Ok(Some(ReportFault::NotWhole));
+    };
+    let Some(part) = part_of(parts, index, lines.as_slice()) else {
+        return Ok(Some(ReportFault::OtherSplit));
+    };
+    if has_report(slots, part) {
+        return Ok(Some(ReportFault::Doubled));
+    }
+    if part < slots.len() {
+        slots[part] = Some(lines);
+    }
+    Ok(None)
 }
 
 /// So many parts without a report.
@@ -113,42 +97,30 @@ fn empty_slots<'a>(alloc: Global, count: usize) -> Result<Slots<'a>, AllocError>
     Ok(slots)
 }
 
-/// Of each part the lines of the first report on it; and what is wrong with the reports.
-fn gathered<'a>(
+/// Puts to each part the lines of the first report on it, and to the faults what is wrong with the reports, and
+/// then the parts that have none.
+fn gather<'a>(
     alloc: Global,
-    parts: &[Vec<LentText<'_>>],
-    index: &Places,
+    keys: RandomState,
+    parts: &[Vec<Text>],
     reports: &'a [Bytes],
-) -> Result<(Slots<'a>, Vec<MergeFault>), AllocError>
-    requires { (pid : List ℕ) → places_of index.now pid
-        ≡ places_by_first (map (λ part. part.items) parts.now) pid }
-    ensures slots { IfOk result (λ found. found.0.items
-        ≡ slots_of (map (λ part. part.items) parts.now) reports.now) }
-    ensures faults { IfOk result (λ found. found.1.items
-        ≡ report_faults (map (λ part. part.items) parts.now) reports.now) }
-{
-    let mut slots = empty_slots(alloc, parts.len())?;
-    let mut faults = Vec::new(alloc);
-    for (number, report) in reports.iter().enumerate() {
-        let told = told(alloc, parts, index, report.as_slice())?;
-        take_told(&mut slots, &mut faults, number, told)?;
-    }
-    Ok((slots, faults))
-}
-
-/// Puts the part to the faults, if it has no report.
-fn push_if_missing(
+    slots: &mut Slots<'a>,
     faults: &mut Vec<MergeFault>,
-    part: usize,
-    slot: &Option<Listed<ReportLine<'_>>>,
 ) -> Result<(), AllocError>
-    ensures { OnOk result (faults.new.items ≡ faults.old.items ++ option_to_list
-        (if is_some slot.now then None else Some (MergeFault.Missing part))) }
+    ensures slots { slots.old.items ≡ replicate (length parts.now) None → OnOk result (slots.new.items
+        ≡ slots_of (map (λ part. part.items) parts.now) reports.now) }
+    ensures faults { slots.old.items ≡ replicate (length parts.now) None → faults.old.items ≡ []
+        → OnOk result (faults.new.items
+        ≡ report_faults (map (λ part. part.items) parts.now) reports.now
+        ++ missing_in slots.new.items) }
 {
-    if slot.is_none() {
-        faults.push(MergeFault::Missing(part))?;
+    let index = places_by_first(alloc, keys, parts)?;
+    for (number, report) in reports.iter().enumerate() {
+        if let Some(fault) = take_report(alloc, parts, &index, report.as_slice(), slots)? {
+            faults.push(MergeFault::Report(number, fault))?;
+        }
     }
-    Ok(())
+    push_missing(faults, slots)
 }
 
 /// Puts the parts without a report to the faults.
@@ -159,7 +131,9 @@ fn push_missing(
     ensures { OnOk result (faults.new.items ≡ faults.old.items ++ missing_in slots.now) }
 {
     for (part, slot) in slots.iter().enumerate() {
-        push_if_missing(faults, part, slot)?;
+        if slot.is_none() {
+            faults.push(MergeFault::Missing(part))?;
+        }
     }
     Ok(())
 }
@@ -225,16 +199,6 @@ fn merged_lines<'a>(
     Ok(merged)
 }
 
-/// The report with these lines, and whether all of them are yes.
-fn merged_of(alloc: Global, lines: &[ReportLine<'_>]) -> Result<Merged, AllocError>
-    ensures { IfOk result (λ whole. whole ≡ merged_of lines.now) }
-{
-    Ok(Merged {
-        text: report_of(alloc, lines)?,
-        are_all_yes: are_all_yes(lines),
-    })
-}
-
 /// The report on the whole, of the parts' lines, if nothing is wrong.
 fn answer(
     alloc: Global,
@@ -248,7 +212,10 @@ fn answer(
 {
     if faults.is_empty() {
         let lines = merged_lines(alloc, sessions, slots)?;
-        return Ok(MergeAnswer::Whole(merged_of(alloc, &lines)?));
+        return Ok(MergeAnswer::Whole(Merged {
+            text: report_of(alloc, &lines)?,
+            are_all_yes: are_all_yes(&lines),
+        }));
     }
     Ok(MergeAnswer::Faults(Listed::new(faults)))
 }
@@ -268,9 +235,8 @@ pub fn merge(
     ensures { IfOk result (λ answer. answer ≡ merged listing.now reports.now) }
 {
     let parts = pids_by_part(alloc, listing)?;
-    let index = places_by_first(alloc, keys, &parts)?;
-    let (slots, faults) = gathered(alloc, &parts, &index, reports)?;
-    let mut faults = faults;
-    push_missing(&mut faults, &slots)?;
+    let mut slots = empty_slots(alloc, parts.len())?;
+    let mut faults = Vec::new(alloc);
+    gather(alloc, keys, &parts, reports, &mut slots, &mut faults)?;
     answer(alloc, listing.sessions.as_slice(), &slots, faults)
 }

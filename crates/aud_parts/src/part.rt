@@ -86,48 +86,36 @@ fn kept_taps(
 {
     let mut left = Vec::new(alloc);
     for tap in taps {
-        push_some(
-            &mut left,
-            kept_tap(alloc, stream, own, audience, came, tap)?,
-        )?;
+        keep_tap(alloc, stream, own, audience, came, tap, &mut left)?;
     }
     Ok(Taps::new(left))
 }
 
-/// Adds the tap, if there is one.
-fn push_some(taps: &mut Vec<Tap>, tap: Option<Tap>) -> Result<(), AllocError>
-    ensures { OnOk result (taps.new.items ≡ taps.old.items ++ option_to_list tap) }
-{
-    match tap {
-        Some(tap) => {
-            taps.push(tap)?;
-            Ok(())
-        }
-        None => Ok(()),
-    }
-}
-
-/// What is left of the tap; none, where it isn't kept.
-fn kept_tap(
+/// Adds what is left of the tap, if it is kept.
+fn keep_tap(
     alloc: Global,
     stream: &Stream<'_>,
     own: &TextSet,
     audience: &Audience,
     came: &[u64],
     tap: &Tap,
-) -> Result<Option<Tap>, AllocError>
-    ensures { IfOk result (λ left. left ≡ tap_kept (has own.now) (entries_for
-        (has audience.now.namespaces) (has audience.now.rooms) came.now stream.now) tap.now) }
+    left: &mut Vec<Tap>,
+) -> Result<(), AllocError>
+    ensures { OnOk result (left.new.items ≡ left.old.items ++ option_to_list (tap_kept
+        (has own.now) (entries_for (has audience.now.namespaces) (has audience.now.rooms) came.now
+        stream.now) tap.now)) }
 {
-    let Some(records) = kept_records(alloc, stream, own, audience, came, &tap.records)? else {
-        return Ok(None);
-    };
     let name = tap.name.share()?;
-    Ok(Some(Tap {
+    let version = tap.version;
+    let Some(records) = kept_records(alloc, stream, own, audience, came, &tap.records)? else {
+        return Ok(());
+    };
+    left.push(Tap {
         name,
-        version: tap.version,
+        version,
         records,
-    }))
+    })?;
+    Ok(())
 }
 
 /// What is left of a tap's records; none, where the tap isn't kept.

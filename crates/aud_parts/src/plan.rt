@@ -2,7 +2,7 @@
 pub mod closed;
 pub mod fault;
 pub mod groups;
-pub mod node_set;
+pub mod load;
 pub mod placing;
 pub mod planning;
 pub mod sessions;

@@ -50,36 +50,28 @@ struct Header {
     version: Version,
 }
 
-/// The header that this line is of the tap of this name.
-fn header_of(
+/// What this line says, where it is a header of the tap of this name.
+fn header_in(
     alloc: Global,
     keys: RandomState,
     name: &str,
-    line: Option<Line>,
-) -> Result<Option<Header>, AllocError>
-    ensures says { IfOk result (λ header. option_map (λ h. (h.of, h.version)) header
-        ≡ option_and_then (header_for name.now) line) }
-    ensures line { IfOk result (λ header. IfSome header (λ h. line ≡ Some h.line)) }
+    line: &Line,
+) -> Result<Option<(TapKind, Version)>, AllocError>
+    ensures { IfOk result (λ header. header ≡ header_for name.now line.now) }
 {
-    let Some(line) = line else {
-        return Ok(None);
-    };
-    let (own, rec) = match parse_line(alloc, keys, &line) {
-        Ok(read) => read,
-        Err(ReadFault::Input(_, _)) => return Ok(None),
-        Err(ReadFault::Memory) => return Err(AllocError),
-    };
-    if name != own.as_str() {
-        return Ok(None);
+    match &parse_line(alloc, keys, line) {
+        Ok((own, rec)) => {
+            let Rec::Header { of, v } = rec else {
+                return Ok(None);
+            };
+            if name != own.as_str() {
+                return Ok(None);
+            }
+            Ok(Some((*of, *v)))
+        }
+        Err(ReadFault::Input(_, _)) => Ok(None),
+        Err(ReadFault::Memory) => Err(AllocError),
     }
-    let Rec::Header { of, v } = rec else {
-        return Ok(None);
-    };
-    Ok(Some(Header {
-        line,
-        of,
-        version: v,
-    }))
 }
 
 /// The header that the first line of the tap is.
@@ -98,8 +90,13 @@ fn first_header<S: RunSource>(
         → IfOk result (λ header. IfSome header (IsHeaderOf files tap.now)) }
     ensures source { S.files source.new ≡ S.files source.old }
 {
-    let line = first_line(alloc, source, buffer, tap.runs())?;
-    Ok(header_of(alloc, keys, tap.name(), line)?)
+    match first_line(alloc, source, buffer, tap.runs())? {
+        Some(line) => match header_in(alloc, keys, tap.name(), &line)? {
+            Some((of, version)) => Ok(Some(Header { line, of, version })),
+            None => Ok(None),
+        },
+        None => Ok(None),
+    }
 }
 
 /// What the header says that the tap was put on.
@@ -198,8 +195,8 @@ fn read_stream<S: RunSource>(
     let TapRead { read, lines, .. } = read_tap(alloc, keys, source, buffer, tap)?;
     match read {
         Ok(read) => {
-            let entries = stream_named(alloc, read.as_slice(), tap.name())?;
             let name = Text::new(alloc, tap.name())?;
+            let entries = stream_named(alloc, read.as_slice(), tap.name())?;
             let version = header.version;
             let records = Records::Stream(entries);
             let tap = Tap {
@@ -257,7 +254,7 @@ fn read_node<S: RunSource>(
     let mut runs = LineRuns::new(Vec::new(alloc));
     // (the first line is the header)
     let mut skipped = 1usize;
-    let mut left = RunLines::new(tap.runs());
+    let mut left = RunLines::of(None, tap.runs());
     'pieces: while let Some(lines) = left.next_lines(alloc, source, buffer)? {
         push_numbers(&mut runs, &lines)?;
         let others = lines_past(&lines, skipped);

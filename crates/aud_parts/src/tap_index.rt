@@ -12,7 +12,7 @@ ghost use Rattle.std.specs.List.{All};
 ghost use Rattle.aud_reader.specs.Lines.{has_newline, without_return};
 ghost use Rattle.aud_parts.specs.TapRuns.{MayBeRead};
 ghost use Rattle.aud_parts.specs.FileLines.{AreTapsOf, file_lines, front_refusal};
-ghost use Rattle.aud_parts.specs.IndexSoFar.{HasRead, IsBegun, IsCounted, KeepsPlaces, ReadSoFar, line_count, so_far, with_bytes, with_line};
+ghost use Rattle.aud_parts.specs.IndexSoFar.{HasRead, IsBegun, IsCounted, KeepsPlaces, ReadSoFar, line_count, so_far, with_line};
 ghost use Rattle.aud_parts.specs.Private.IndexSteps.{HasEnded, HasEndedLast, Looks, MayEnd, placed_at};
 
 use crate::tap_index::tap_runs::{Run, RunsByTap, TapRuns};
@@ -76,12 +76,6 @@ impl Begun {
         } else {
             self.size
         }
-    }
-
-    fn to(&self) -> u64
-        ensures { self.now.from + self.now.size < 2 ^ 64 → result ≡ self.now.from + self.now.size }
-    {
-        self.from.saturating_add(self.size)
     }
 
     /// The next line begins here.
@@ -185,39 +179,31 @@ impl TapIndex {
         let line = Run {
             file: self.file,
             from: self.begun.from,
-            to: self.begun.to(),
+            to: self.begun.from.saturating_add(self.begun.size),
             number: self.number,
         };
-        self.look_at(line)?;
+        self.note(line)?;
         self.number = self.number.saturating_add(1);
         self.begun.begin(line.to.saturating_add(1));
         Ok(())
     }
 
-    /// Looks at the line that has begun, and that stands here, if it has bytes and no line before it was refused.
-    fn look_at(&mut self, line: Run) -> Result<(), AllocError>
+    /// Notes the line that has begun, and that stands here, as one of its tap, or refuses it; unless it has no bytes, or a
+    /// line before it was refused.
+    fn note(&mut self, line: Run) -> Result<(), AllocError>
         ensures { (text : List ℕ) → IsBegun self.old.begun self.old.begun.from text
             → line.to ≡ line.from + length text → KeepsPlaces self.old.runs
             → OnOk result (Looks self.old self.new
             (with_line (so_far self.old) (placed_at line text))) }
     {
+        let measured = self.begun.measured();
         if self.fault.is_some() {
             return Ok(());
         }
-        if self.begun.measured() == 0 {
+        if measured == 0 {
             return Ok(());
         }
-        self.note(line)
-    }
-
-    /// Notes the line that has begun, and that stands here, as one of its tap, or refuses it.
-    fn note(&mut self, line: Run) -> Result<(), AllocError>
-        ensures { (text : List ℕ) → IsBegun self.old.begun self.old.begun.from text
-            → line.to ≡ line.from + length text → KeepsPlaces self.old.runs
-            → OnOk result (Looks self.old self.new
-            (with_bytes (so_far self.old) (placed_at line text))) }
-    {
-        if self.begun.measured() > MAX_LINE as u64 {
+        if measured > MAX_LINE as u64 {
             self.fault = Some(ReadFault::Input(line.number, InputCode::LineTooLong));
             return Ok(());
         }

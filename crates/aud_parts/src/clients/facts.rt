@@ -59,23 +59,14 @@ fn push_pid(pids: &mut Vec<Text>, stay: &Stay<'_>) -> Result<(), AllocError>
     ensures { OnOk result (pids.new.items
         ≡ pids.old.items ++ option_to_list (stay_pid stay.now)) }
 {
-    match pid_of(stay) {
-        Some(pid) => {
-            pids.push(pid.share()?)?;
-            Ok(())
-        }
-        None => Ok(()),
-    }
-}
-
-/// The session that the stay's reply names, borrowed.
-fn pid_of<'s>(stay: &'s Stay<'_>) -> Option<&'s Text>
-    ensures { option_copied result ≡ stay_pid stay.now }
-{
-    match &stay.reply {
-        Some(reply) => reply.pid.as_ref(),
-        None => None,
-    }
+    let Some(reply) = &stay.reply else {
+        return Ok(());
+    };
+    let Some(pid) = &reply.pid else {
+        return Ok(());
+    };
+    pids.push(pid.share()?)?;
+    Ok(())
 }
 
 /// The positions of the frames of these stays: ascending, each once.
@@ -84,21 +75,13 @@ fn came_in(alloc: Global, stays: &[Stay<'_>]) -> Result<Vec<u64>, AllocError>
         → is_one_of came.items position ≡ list_any (has_frame_at position) stays.now) }
     ensures ascending { IfOk result (λ came. IsStrictlyIncreasing came.items) }
 {
-    let mut came = positions_in(alloc, stays)?;
+    let mut came = Vec::new(alloc);
+    for stay in stays {
+        push_positions(&mut came, stay)?;
+    }
     came.sort_unstable();
     came.dedup();
     Ok(came)
-}
-
-/// The positions of the frames of these stays, stay after stay.
-fn positions_in(alloc: Global, stays: &[Stay<'_>]) -> Result<Vec<u64>, AllocError>
-    ensures { IfOk result (λ positions. positions.items ≡ flat_map frame_positions stays.now) }
-{
-    let mut positions = Vec::new(alloc);
-    for stay in stays {
-        push_positions(&mut positions, stay)?;
-    }
-    Ok(positions)
 }
 
 /// Adds the positions of the stay's frames.

@@ -11,50 +11,20 @@ ghost use Rattle.aud_parts.specs.Private.PartPlaces.{first_or_none, has_pids, pl
 use crate::listing::Listing;
 use crate::merging::report_lines::ReportLine;
 use aud_base::Places;
+use aud_tap::Text;
 use std::alloc::{AllocError, Global};
 use std::hash::RandomState;
-use std::marker::Model;
 
-/// A text that is borrowed, as a pid of a listing is, seen as its bytes.
-#[derive(Drop)]
-pub(crate) struct LentText<'a> {
-    text: &'a str,
-}
-
-impl<'a> Model for LentText<'a> {
-    ghost use Rattle.std.specs.Prelude.{List, ℕ};
-
-    ghost Value = { List ℕ };
-
-    ghost view = { λ l. l.text.now };
-}
-
-impl<'a> LentText<'a> {
-    fn new(text: &'a str) -> LentText<'a>
-        ensures { result ≡ text.now }
-    {
-        LentText { text }
-    }
-
-    fn as_str(&self) -> &'a str
-        ensures { result.now ≡ self.now }
-    {
-        self.text
-    }
-}
-
-/// The pids of each part's sessions, in their order; borrowed.
-pub(crate) fn pids_by_part<'a>(
-    alloc: Global,
-    listing: &'a Listing,
-) -> Result<Vec<Vec<LentText<'a>>>, AllocError>
+/// The pids of each part's sessions, in their order. They are shared with the listing.
+pub(crate) fn pids_by_part(alloc: Global, listing: &Listing) -> Result<Vec<Vec<Text>>, AllocError>
     requires { IsTrue (are_within listing.now) }
     ensures { IfOk result (λ parts. map (λ part. part.items) parts.items
         ≡ pids_by_part listing.now) }
 {
     let mut parts = empty_lists(alloc, listing.parts)?;
     for session in listing.sessions.as_slice() {
-        parts[session.part].push(LentText::new(session.pid.as_str()))?;
+        let pid = session.pid.share()?;
+        parts[session.part].push(pid)?;
     }
     Ok(parts)
 }
@@ -71,7 +41,7 @@ fn empty_lists<T: Drop>(alloc: Global, count: usize) -> Result<Vec<Vec<T>>, Allo
 }
 
 /// The first of these pids; nothing where there is none.
-fn first_pid<'a>(pids: &[LentText<'a>]) -> &'a str
+fn first_pid(pids: &[Text]) -> &str
     ensures { result.now ≡ first_or_none pids.now }
 {
     match pids.first() {
@@ -94,7 +64,7 @@ fn first_told<'a>(lines: &[ReportLine<'a>]) -> &'a str
 pub(crate) fn places_by_first(
     alloc: Global,
     keys: RandomState,
-    parts: &[Vec<LentText<'_>>],
+    parts: &[Vec<Text>],
 ) -> Result<Places, AllocError>
     ensures { IfOk result (λ index. (pid : List ℕ) → places_of index pid
         ≡ places_by_first (map (λ part. part.items) parts.now) pid) }
@@ -107,16 +77,15 @@ pub(crate) fn places_by_first(
 }
 
 /// Whether these are the pids of the lines.
-fn are_pids(pids: &[LentText<'_>], lines: &[ReportLine<'_>]) -> bool
+fn are_pids(pids: &[Text], lines: &[ReportLine<'_>]) -> bool
     ensures { result ≡ pointwise bytes_eq pids.now (pids_of lines.now) }
 {
     if pids.len() != lines.len() {
         return false;
     }
     for i in 0..pids.len() {
-        let pid = &pids[i];
         let line = &lines[i];
-        if pid.as_str() != line.pid {
+        if pids[i].as_str() != line.pid {
             return false;
         }
     }
@@ -124,7 +93,7 @@ fn are_pids(pids: &[LentText<'_>], lines: &[ReportLine<'_>]) -> bool
 }
 
 /// Whether the part with this number has the pids of the lines.
-fn has_pids(parts: &[Vec<LentText<'_>>], part: usize, lines: &[ReportLine<'_>]) -> bool
+fn has_pids(parts: &[Vec<Text>], part: usize, lines: &[ReportLine<'_>]) -> bool
     ensures { result ≡ has_pids (map (λ part. part.items) parts.now) (pids_of lines.now) part }
 {
     match parts.get(part) {
@@ -135,7 +104,7 @@ fn has_pids(parts: &[Vec<LentText<'_>>], part: usize, lines: &[ReportLine<'_>]) 
 
 /// The first part whose sessions have the pids of the lines, in this order.
 pub(crate) fn part_of(
-    parts: &[Vec<LentText<'_>>],
+    parts: &[Vec<Text>],
     index: &Places,
     lines: &[ReportLine<'_>],
 ) -> Option<usize>

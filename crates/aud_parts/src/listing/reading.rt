@@ -1,10 +1,10 @@
 //! The reading of the text that says which part has which session.
 ghost use Rattle.std.specs.Prelude.{◌≡◌, [], IfOk, IsTrue, map};
 ghost use Rattle.std.specs.List.{list_all};
-ghost use Rattle.aud_parts.specs.Listing.{Gives, are_new, are_within, checked, counts_in, has_some, is_bare, is_full, is_listing, is_within, listing_after, listing_in, listing_of, number_under, session_in, session_of_words, sessions_in, unended_fault};
+ghost use Rattle.aud_parts.specs.Listing.{Gives, are_new, are_within, checked, counts_in, has_some, is_full, is_listing, is_within, listing_after, listing_in, listing_of, number_under, session_in, session_of_words, sessions_in, unended_fault};
 
 use crate::cut::{LentBytes, after_prefix, cut_at, number_in, pid_in, whole_lines};
-use crate::listing::by_part::{LentText, pids_by_part};
+use crate::listing::by_part::pids_by_part;
 use crate::listing::fault::ListingFault;
 use crate::listing::{ListedSession, Listing};
 use aud_base::{Listed, Places};
@@ -29,16 +29,14 @@ fn counts_in(line: &[u8]) -> Option<(usize, usize)>
     Some((parts, sessions))
 }
 
-/// The session with this part, one of so many, and this pid.
+/// The session of a line: its part, one of so many, and its pid.
 #[tactic(auto, unfolding(crate::specs::Listing::session_of_words))]
-fn session_of_words(
-    alloc: Global,
-    parts: usize,
-    number: &[u8],
-    pid: &[u8],
-) -> Result<ListedSession, ListingFault>
-    ensures { Gives (λ s. s) result (session_of_words parts (number.now, pid.now)) }
+fn session_in(alloc: Global, parts: usize, line: &[u8]) -> Result<ListedSession, ListingFault>
+    ensures { Gives (λ s. s) result (session_in parts line.now) }
 {
+    let Some((number, pid)) = cut_at(b' ', line) else {
+        return Err(ListingFault::NoListing);
+    };
     let Some(number) = number_in(number) else {
         return Err(ListingFault::NoListing);
     };
@@ -53,16 +51,6 @@ fn session_of_words(
         part: number - 1,
         pid,
     })
-}
-
-/// The session of a line.
-fn session_in(alloc: Global, parts: usize, line: &[u8]) -> Result<ListedSession, ListingFault>
-    ensures { Gives (λ s. s) result (session_in parts line.now) }
-{
-    match cut_at(b' ', line) {
-        Some((number, pid)) => session_of_words(alloc, parts, number, pid),
-        None => Err(ListingFault::NoListing),
-    }
 }
 
 /// The sessions of the lines.
@@ -98,7 +86,7 @@ fn are_new(alloc: Global, keys: RandomState, sessions: &[ListedSession]) -> Resu
 }
 
 /// Whether each of the parts has a pid.
-fn are_some(parts: &[Vec<LentText<'_>>]) -> bool
+fn are_some(parts: &[Vec<Text>]) -> bool
     ensures { result ≡ list_all has_some (map (λ part. part.items) parts.now) }
 {
     for pids in parts {
@@ -109,19 +97,12 @@ fn are_some(parts: &[Vec<LentText<'_>>]) -> bool
     true
 }
 
-/// Whether there is one part and no session.
-fn is_bare(listing: &Listing) -> bool
-    ensures { result ≡ is_bare listing.now }
-{
-    listing.parts == 1 && listing.sessions.as_slice().is_empty()
-}
-
 /// Whether each part has a session, or there is one part and no session.
 fn is_full(alloc: Global, listing: &Listing) -> Result<bool, AllocError>
     requires { IsTrue (are_within listing.now) }
     ensures { IfOk result (λ answer. answer ≡ is_full listing.now) }
 {
-    if is_bare(listing) {
+    if listing.parts == 1 && listing.sessions.as_slice().is_empty() {
         return Ok(true);
     }
     if listing.parts > listing.sessions.as_slice().len() {
@@ -131,16 +112,16 @@ fn is_full(alloc: Global, listing: &Listing) -> Result<bool, AllocError>
     Ok(are_some(&parts))
 }
 
-/// The listing, if it has so many sessions, no pid twice and no empty part.
+/// Whether the listing has so many sessions, no pid twice and no empty part; else what is wrong with it.
 #[tactic(auto, unfolding(crate::specs::Listing::checked))]
-fn checked(
+fn check(
     alloc: Global,
     keys: RandomState,
     count: usize,
-    listing: Listing,
-) -> Result<Listing, ListingFault>
-    requires { IsTrue (are_within listing) }
-    ensures { Gives (λ l. l) result (checked count listing) }
+    listing: &Listing,
+) -> Result<(), ListingFault>
+    requires { IsTrue (are_within listing.now) }
+    ensures { Gives (λ (_ : Unit). listing.now) result (checked count listing.now) }
 {
     if listing.sessions.as_slice().len() != count {
         return Err(ListingFault::CutShort);
@@ -148,10 +129,10 @@ fn checked(
     if !are_new(alloc, keys, listing.sessions.as_slice())? {
         return Err(ListingFault::PidTwice);
     }
-    if !is_full(alloc, &listing)? {
+    if !is_full(alloc, listing)? {
         return Err(ListingFault::EmptyPart);
     }
-    Ok(listing)
+    Ok(())
 }
 
 /// The listing of a first line with these counts, and of the lines after it.
@@ -170,7 +151,10 @@ fn listing_after(
         parts,
         sessions: Listed::new(sessions),
     };
-    checked(alloc, keys, count, listing)
+    match check(alloc, keys, count, &listing) {
+        Ok(()) => Ok(listing),
+        Err(fault) => Err(fault),
+    }
 }
 
 /// The listing of the lines.

@@ -1,7 +1,7 @@
 //! A report, read again.
 ghost use Rattle.std.specs.Prelude.{◌≡◌, ◌++◌, IfOk, OnOk, count_by, string_bytes, option_map};
 ghost use Rattle.std.specs.List.{list_all};
-ghost use Rattle.aud_parts.specs.ReportLines.{answer_in, ended_line, report_in, report_line, report_lines, report_of, report_of_lines, says_yes, totals, with_words};
+ghost use Rattle.aud_parts.specs.ReportLines.{answer_in, ended_line, report_in, report_line, report_lines, report_of, report_of_lines, says_yes, totals};
 
 use crate::cut::{LentBytes, cut_at, pid_in, whole_lines};
 use aud_base::{Bytes, Listed};
@@ -51,22 +51,15 @@ fn answer_in(word: &[u8]) -> Option<bool>
     }
 }
 
-/// The line with this first word, and after it a pid.
-fn with_words<'a>(text: &'a [u8], word: &[u8], pid: &'a [u8], more: &[u8]) -> Option<ReportLine<'a>>
-    ensures { result ≡ with_words text.now word.now (pid.now, more.now) }
-{
-    let is_yes = answer_in(word)?;
-    let pid = pid_in(pid)?;
-    Some(ReportLine { pid, is_yes, text })
-}
-
 /// The line of a session: `yes` or `no`, a pid, and more.
 fn report_line(text: &[u8]) -> Option<ReportLine<'_>>
     ensures { result ≡ report_line text.now }
 {
     let (word, rest) = cut_at(b' ', text)?;
-    let (pid, more) = cut_at(b' ', rest)?;
-    with_words(text, word, pid, more)
+    let (pid, _more) = cut_at(b' ', rest)?;
+    let is_yes = answer_in(word)?;
+    let pid = pid_in(pid)?;
+    Some(ReportLine { pid, is_yes, text })
 }
 
 /// The lines of sessions; `None` where one of them isn't.
@@ -86,13 +79,6 @@ fn report_lines<'a>(
     Ok(Some(lines))
 }
 
-/// How many lines are yes.
-fn count_yes(lines: &[ReportLine<'_>]) -> usize
-    ensures { result ≡ count_by says_yes lines.now }
-{
-    lines.iter().filter(|line| line.is_yes).count()
-}
-
 /// Whether each line is yes.
 pub(crate) fn are_all_yes(lines: &[ReportLine<'_>]) -> bool
     ensures { result ≡ list_all says_yes lines.now }
@@ -105,7 +91,7 @@ fn totals(alloc: Global, lines: &[ReportLine<'_>]) -> Result<String, AllocError>
     ensures { IfOk result (λ text. string_bytes text ≡ totals lines.now) }
 {
     let sessions = lines.len();
-    let yes = count_yes(lines);
+    let yes = lines.iter().filter(|line| line.is_yes).count();
     let no = sessions.saturating_sub(yes);
     let mut out = String::new(alloc);
     write!(&mut out, "sessions={sessions} yes={yes} no={no}")?;

@@ -75,7 +75,8 @@ impl Audience {
         Ok(())
     }
 
-    /// Adds what the record tells, if it names one of these sessions.
+    /// Adds the namespace in which the record opens a session, and the room that it grants, if it names one of these
+    /// sessions.
     fn note_own(&mut self, own: &TextSet, rec: &NodeRec) -> Result<(), AllocError>
         ensures namespaces { OnOk result ((q : List ℕ) → has self.new.namespaces q
             ≡ (has self.old.namespaces q || passes_own (has own.now) (opens_nsp q) rec.now)) }
@@ -85,16 +86,6 @@ impl Audience {
         if !names_own(own, rec) {
             return Ok(());
         }
-        self.note(rec)
-    }
-
-    /// Adds the namespace in which the record opens a session, and the room that it grants.
-    fn note(&mut self, rec: &NodeRec) -> Result<(), AllocError>
-        ensures namespaces { OnOk result ((q : List ℕ) → has self.new.namespaces q
-            ≡ (has self.old.namespaces q || opens_nsp q rec.now)) }
-        ensures rooms { OnOk result ((q : List ℕ) → has self.new.rooms q
-            ≡ (has self.old.rooms q || grants q rec.now)) }
-    {
         match rec {
             NodeRec::Opened { sid, nsp, .. } => {
                 put(&mut self.namespaces, nsp)?;

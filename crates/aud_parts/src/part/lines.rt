@@ -8,7 +8,7 @@ ghost use Rattle.aud_reader.specs.OwnLines.{recs_in};
 ghost use Rattle.aud_upgrade.specs.declared.joins.Joins.TheVariants.{TakeAndTakes};
 ghost use Rattle.aud_upgrade.specs.Upgraded.{upgraded_log};
 ghost use Rattle.aud_parts.specs.ServerLines.{AreLeft, HasLinesOf, NamesLines, own_records, place_named, places_left, record_places};
-ghost use Rattle.aud_parts.specs.Private.FoundRecords.{comes_from, comes_next, taken};
+ghost use Rattle.aud_parts.specs.Private.FoundRecords.{comes_next, taken};
 
 use aud_input::LineRuns;
 use aud_tap::{NodeRec, NodeRecs, Records, Tap, Text};
@@ -30,20 +30,13 @@ fn taken(rec: &NodeRec) -> Option<&Text>
     }
 }
 
-/// Whether the part's record can come from this one: it takes up to the same entry, or is of the same session, or both
-/// say how the log begins.
-fn comes_from(part: &NodeRec, rec: &NodeRec) -> bool
-    ensures { result ≡ comes_from part.now rec.now }
-{
-    taken(part) == taken(rec) && part.pid() == rec.pid()
-}
-
-/// Whether the part's record with this number can, if there is one.
+/// Whether the part's record with this number can come from this one, if there is such a record: it takes up to the same
+/// entry, or is of the same session, or both say how the log begins.
 fn comes_next(part: &NodeRecs, number: usize, rec: &NodeRec) -> bool
     ensures { result ≡ comes_next part.now number rec.now }
 {
     match part.get(number) {
-        Some(own) => comes_from(own, rec),
+        Some(own) => taken(own) == taken(rec) && own.pid() == rec.pid(),
         None => false,
     }
 }

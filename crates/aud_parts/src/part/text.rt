@@ -193,7 +193,7 @@ fn write_client<S: RunSource, W: Write>(
     let mut text = Vec::new(alloc);
     // (the first line is the header)
     let mut skipped = 1usize;
-    let mut left = RunLines::new(tap.runs());
+    let mut left = RunLines::of(None, tap.runs());
     'pieces: while let Some(lines) = left.next_lines(alloc, source, buffer)? {
         push_numbers(runs, &lines)?;
         text.clear();

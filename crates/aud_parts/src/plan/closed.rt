@@ -16,7 +16,7 @@ use aud_tap::{NodeRec, NodeRecs, Records, Tap, Text};
 
 /// Whether each session has one of the parts, each client's tap has that of all its sessions, and one part has all
 /// sessions of each log that doesn't begin with a `start`.
-pub(crate) fn is_closed(plan: &Plan, taps: &[Tap], clients: &[MeasuredClient]) -> bool
+pub(crate) fn is_closed(taps: &[Tap], clients: &[MeasuredClient], plan: &Plan) -> bool
     ensures { result ≡ true → IsClosed taps.now clients.now plan.now }
 {
     if plan.parts.len() != plan.sessions.len() {
@@ -25,10 +25,10 @@ pub(crate) fn is_closed(plan: &Plan, taps: &[Tap], clients: &[MeasuredClient]) -
     if !are_below(&plan.parts, plan.weights.len()) {
         return false;
     }
-    if !are_clients_in(plan, clients) {
+    if !are_clients_in(clients, plan) {
         return false;
     }
-    stay_whole(plan, taps)
+    stay_whole(taps, plan)
 }
 
 /// Whether no part has more sessions, or more clients' taps, than a bundle may have.
@@ -54,7 +54,7 @@ fn are_below(parts: &[usize], count: usize) -> bool
 }
 
 /// Whether each client's tap has the part of all its sessions.
-fn are_clients_in(plan: &Plan, clients: &[MeasuredClient]) -> bool
+fn are_clients_in(clients: &[MeasuredClient], plan: &Plan) -> bool
     ensures { result ≡ true
         → OneForEach (IsClientIn plan.now) clients.now plan.now.clients.items }
 {
@@ -62,7 +62,7 @@ fn are_clients_in(plan: &Plan, clients: &[MeasuredClient]) -> bool
         return false;
     }
     for (number, client) in clients.iter().enumerate() {
-        if !is_client_in(plan, client, plan.clients[number]) {
+        if !is_client_in(client, plan, plan.clients[number]) {
             return false;
         }
     }
@@ -70,7 +70,7 @@ fn are_clients_in(plan: &Plan, clients: &[MeasuredClient]) -> bool
 }
 
 /// Whether the client's tap has this part.
-fn is_client_in(plan: &Plan, client: &MeasuredClient, part: Option<usize>) -> bool
+fn is_client_in(client: &MeasuredClient, plan: &Plan, part: Option<usize>) -> bool
     ensures { result ≡ has_its_part plan.now (client_pids client.now) part }
 {
     let pids = client.facts.pids.as_slice();
@@ -93,12 +93,12 @@ fn are_in(plan: &Plan, part: usize, pids: &[Text]) -> bool
 }
 
 /// Whether one part has all sessions of each log that doesn't begin with a `start`.
-fn stay_whole(plan: &Plan, taps: &[Tap]) -> bool
+fn stay_whole(taps: &[Tap], plan: &Plan) -> bool
     ensures { result ≡ true
         → All (λ (tap : Tap). StaysWhole plan.now (node_recs (Some tap.records))) taps.now }
 {
     for tap in taps {
-        if !stays_whole(plan, tap) {
+        if !stays_whole(tap, plan) {
             return false;
         }
     }
@@ -106,51 +106,45 @@ fn stay_whole(plan: &Plan, taps: &[Tap]) -> bool
 }
 
 /// The same of this tap's log, if it is a node's.
-fn stays_whole(plan: &Plan, tap: &Tap) -> bool
+fn stays_whole(tap: &Tap, plan: &Plan) -> bool
     ensures { result ≡ true → StaysWhole plan.now (node_recs (Some tap.now.records)) }
 {
     match &tap.records {
         Records::Stream(_) => true,
-        Records::Node(recs) => is_log_whole(plan, recs),
+        Records::Node(recs) => is_log_whole(recs, plan),
         Records::Client(_) => true,
     }
 }
 
 /// The same of this log.
-fn is_log_whole(plan: &Plan, recs: &NodeRecs) -> bool
+fn is_log_whole(recs: &NodeRecs, plan: &Plan) -> bool
     ensures { result ≡ true → StaysWhole plan.now recs.now }
 {
     if is_started(recs) {
         return true;
     }
-    let part = first_part(plan, recs);
-    names_only(plan, part, recs)
+    let part = first_part(recs, plan);
+    names_only(recs, plan, part)
 }
 
 /// The part of the first session that the log names; the first part where it names none.
-fn first_part(plan: &Plan, recs: &NodeRecs) -> usize {
+fn first_part(recs: &NodeRecs, plan: &Plan) -> usize {
     for number in 0..recs.len() {
-        if let Some(part) = part_named(plan, &recs[number]) {
-            return part;
+        if let Some(pid) = recs[number].pid() {
+            if let Some(part) = plan.part_of(pid.as_str()) {
+                return part;
+            }
         }
     }
     0
 }
 
-/// The part of the session that the record names.
-fn part_named(plan: &Plan, rec: &NodeRec) -> Option<usize> {
-    match rec.pid() {
-        Some(pid) => plan.part_of(pid.as_str()),
-        None => None,
-    }
-}
-
 /// Whether each record names no session, or one that has the part.
-fn names_only(plan: &Plan, part: usize, recs: &NodeRecs) -> bool
+fn names_only(recs: &NodeRecs, plan: &Plan, part: usize) -> bool
     ensures { result ≡ list_all (keeps_record (is_in plan.now part)) recs.now }
 {
     for number in 0..recs.len() {
-        if !is_kept(plan, part, &recs[number]) {
+        if !is_kept(&recs[number], plan, part) {
             return false;
         }
     }
@@ -158,7 +152,7 @@ fn names_only(plan: &Plan, part: usize, recs: &NodeRecs) -> bool
 }
 
 /// Whether the record names no session, or one that has the part.
-fn is_kept(plan: &Plan, part: usize, rec: &NodeRec) -> bool
+fn is_kept(rec: &NodeRec, plan: &Plan, part: usize) -> bool
     ensures { result ≡ keeps_record (is_in plan.now part) rec.now }
 {
     match rec.pid() {

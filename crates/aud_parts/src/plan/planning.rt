@@ -7,10 +7,11 @@ use crate::clients::measured::MeasuredClient;
 use crate::plan::Plan;
 use crate::plan::closed::{has_room, is_closed};
 use crate::plan::fault::PlanFault;
-use crate::plan::placing::{Placed, place_units};
+use crate::plan::placing::place_units;
 use crate::plan::sessions::Sessions;
 use crate::plan::units::{Units, first_named, units_of};
 use aud_node::Logs;
+use aud_tap::Tap;
 use std::alloc::{AllocError, Global};
 
 /// Plans at most so many parts, and one at least, of a recording with these logs of the stream and of the nodes, and
@@ -35,68 +36,74 @@ pub fn plan_parts(
     ensures few { IfOk result (λ plan. vec_len plan.weights ≤ max most 1) }
 {
     let sessions = Sessions::of(alloc, logs, clients)?;
-    let units = units_of(alloc, &sessions, logs.taps(), clients)?;
-    let placed = place_units(alloc, &sessions, &units.all, most)?;
-    let parts = parts_of_sessions(alloc, &units, &placed)?;
-    let of_clients = parts_of_clients(alloc, &sessions, &units, &placed, clients)?;
-    let weights = placed.weights(alloc)?;
+    let Placed { parts, weights } = place_sessions(alloc, logs.taps(), clients, &sessions, most)?;
+    let clients_in = parts_of_clients(alloc, clients, &sessions, &parts)?;
     let plan = Plan {
         sessions,
         parts,
-        clients: of_clients,
+        clients: clients_in,
         weights,
     };
-    if !is_closed(&plan, logs.taps(), clients) || !has_room(&plan) {
-        return Err(PlanFault::Unclosed);
+    if is_closed(logs.taps(), clients, &plan) && has_room(&plan) {
+        Ok(plan)
+    } else {
+        Err(PlanFault::Unclosed)
     }
-    Ok(plan)
+}
+
+/// Units in parts.
+#[derive(Drop)]
+struct Placed {
+    /// Of each session, the part of its unit.
+    parts: Vec<usize>,
+    /// How heavy each part is.
+    weights: Vec<u64>,
+}
+
+/// The sessions in at most so many parts, by their units.
+fn place_sessions(
+    alloc: Global,
+    taps: &[Tap],
+    clients: &[MeasuredClient],
+    sessions: &Sessions,
+    most: usize,
+) -> Result<Placed, PlanFault>
+    ensures some { IfOk result (λ placed. 1 ≤ vec_len placed.weights) }
+    ensures few { IfOk result (λ placed. vec_len placed.weights ≤ max most 1) }
+{
+    let mut units = units_of(alloc, taps, clients, sessions)?;
+    let weights = place_units(alloc, sessions, &mut units.all, most)?;
+    let parts = parts_of_sessions(alloc, &units)?;
+    Ok(Placed { parts, weights })
 }
 
 /// Of each session, the part of its unit.
-fn parts_of_sessions(
-    alloc: Global,
-    units: &Units,
-    placed: &Placed,
-) -> Result<Vec<usize>, AllocError> {
+fn parts_of_sessions(alloc: Global, units: &Units) -> Result<Vec<usize>, AllocError> {
     let mut parts = Vec::with_capacity(alloc, units.of_sessions.len())?;
-    for session in 0..units.of_sessions.len() {
-        parts.push(part_of_session(units, placed, session))?;
+    for number in &units.of_sessions {
+        let part = match units.all.get(*number) {
+            Some(unit) => unit.part,
+            None => 0,
+        };
+        parts.push(part)?;
     }
     Ok(parts)
 }
 
-/// Of each client's tap, the part of its sessions.
+/// Of each client's tap, the part of its sessions, where these are those of all sessions.
 fn parts_of_clients(
     alloc: Global,
-    sessions: &Sessions,
-    units: &Units,
-    placed: &Placed,
     clients: &[MeasuredClient],
-) -> Result<Vec<Option<usize>>, AllocError> {
-    let mut parts = Vec::with_capacity(alloc, clients.len())?;
-    for client in clients {
-        parts.push(part_of_client(sessions, units, placed, client))?;
-    }
-    Ok(parts)
-}
-
-fn part_of_client(
     sessions: &Sessions,
-    units: &Units,
-    placed: &Placed,
-    client: &MeasuredClient,
-) -> Option<usize> {
-    match first_named(sessions, client) {
-        Some(session) => Some(part_of_session(units, placed, session)),
-        None => None,
+    parts: &[usize],
+) -> Result<Vec<Option<usize>>, AllocError> {
+    let mut of_clients = Vec::with_capacity(alloc, clients.len())?;
+    for client in clients {
+        let part = match first_named(client, sessions) {
+            Some(session) => parts.get(session).copied(),
+            None => None,
+        };
+        of_clients.push(part)?;
     }
-}
-
-/// The part of the session's unit.
-fn part_of_session(units: &Units, placed: &Placed, session: usize) -> usize {
-    placed
-        .parts
-        .get(units.unit_of(session))
-        .copied()
-        .unwrap_or(0)
+    Ok(of_clients)
 }

@@ -83,6 +83,14 @@ impl Sessions {
         self.pids.get_index_of(pid)
     }
 
+    /// A copy of the pid of the session with this number; nothing where there is no such session.
+    pub(crate) fn copy_of(&self, number: usize) -> Result<String, AllocError> {
+        match self.pids.get_index(number) {
+            Some(pid) => String::from_str(self.alloc, pid.as_str()),
+            None => Ok(String::new(self.alloc)),
+        }
+    }
+
     /// The session is mentioned; one that was before keeps its place.
     fn mention(&mut self, pid: &str) -> Result<(), AllocError>
         ensures { OnOk result (self.new ≡ with_text self.old pid.now) }

@@ -54,15 +54,6 @@ struct Measured {
     bytes: u64,
 }
 
-/// The bytes of all clients' taps.
-fn bytes_of(clients: &[MeasuredClient]) -> u64 {
-    let mut bytes = 0u64;
-    for client in clients {
-        bytes = bytes.saturating_add(client.bytes);
-    }
-    bytes
-}
-
 /// The number of the heaviest part, the first of those that are as heavy.
 fn heaviest(plan: &Plan) -> usize {
     let mut heaviest = 0usize;
@@ -76,17 +67,6 @@ fn heaviest(plan: &Plan) -> usize {
     heaviest
 }
 
-/// The part, if it has more than so many bytes.
-fn if_larger(planned: &Planned<'_>, part: usize, most: u64) -> Result<Option<Measured>, ReadFault> {
-    let servers = planned.servers(part)?;
-    let bytes = planned.bytes(part, &servers);
-    if bytes > most {
-        Ok(Some(Measured { part, bytes }))
-    } else {
-        Ok(None)
-    }
-}
-
 /// A part that has more than so many bytes: the heaviest one, or else the first.
 fn larger_part(
     alloc: Global,
@@ -97,14 +77,17 @@ fn larger_part(
 ) -> Result<Option<Measured>, ReadFault> {
     let planned = &Planned::new(alloc, logs, clients, plan);
     let heaviest = heaviest(plan);
-    if let Some(larger) = if_larger(planned, heaviest, most)? {
-        return Ok(Some(larger));
-    }
-    for part in 0..plan.weights.len() {
-        if part != heaviest {
-            if let Some(larger) = if_larger(planned, part, most)? {
-                return Ok(Some(larger));
-            }
+    for number in 0..plan.weights.len() {
+        let part = if number == 0 {
+            heaviest
+        } else if number <= heaviest {
+            number - 1
+        } else {
+            number
+        };
+        let bytes = planned.bytes(part, &planned.servers(part)?);
+        if bytes > most {
+            return Ok(Some(Measured { part, bytes }));
         }
     }
     Ok(None)
@@ -120,19 +103,11 @@ fn next_number(parts: usize, bytes: u64, most: u64) -> usize {
 }
 
 /// Why a part can't be smaller.
-fn too_large(alloc: Global, plan: &Plan, larger: &Measured) -> SizedFault {
-    let Ok(pids) = plan.pids_in(alloc, larger.part) else {
-        return SizedFault::Plan(PlanFault::Memory);
-    };
-    let first = match pids.first() {
-        Some(pid) => String::from_str(alloc, pid),
-        None => String::from_str(alloc, ""),
-    };
-    match first {
-        Ok(first) => SizedFault::TooLarge {
-            first,
-            bytes: larger.bytes,
-        },
+fn too_large(plan: &Plan, larger: Measured) -> SizedFault {
+    let Measured { part, bytes } = larger;
+    let first = plan.parts.iter().position(|own| *own == part);
+    match plan.sessions.copy_of(first.unwrap_or(plan.parts.len())) {
+        Ok(first) => SizedFault::TooLarge { first, bytes },
         Err(_) => SizedFault::Plan(PlanFault::Memory),
     }
 }
@@ -148,7 +123,11 @@ pub fn plan_within(
 ) -> Result<Plan, SizedFault>
     ensures { IfOk result (IsClosed logs.now.taps clients.now) }
 {
-    let mut parts = (bytes_of(clients) / most.max(1)).saturating_add(1) as usize;
+    let mut bytes = 0u64;
+    for client in clients {
+        bytes = bytes.saturating_add(client.bytes);
+    }
+    let mut parts = (bytes / most.max(1)).saturating_add(1) as usize;
     for _try in 0..TRIES {
         match plan_parts(alloc, logs, clients, parts) {
             Ok(plan) => {
@@ -156,7 +135,7 @@ pub fn plan_within(
                     return Ok(plan);
                 };
                 if plan.weights.len() < parts || plan.session_count(larger.part) < 2 {
-                    return Err(too_large(alloc, &plan, &larger));
+                    return Err(too_large(&plan, larger));
                 }
                 parts = next_number(parts, larger.bytes, most);
             }

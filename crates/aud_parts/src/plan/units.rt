@@ -4,9 +4,9 @@ ghost use Rattle.aud_parts.specs.LeftOut.{is_start, is_started};
 
 use crate::clients::measured::MeasuredClient;
 use crate::plan::groups::Groups;
-use crate::plan::node_set::NodeSet;
+use crate::plan::load::Load;
 use crate::plan::sessions::Sessions;
-use aud_tap::{NodeRec, NodeRecs, Records, Tap, Text};
+use aud_tap::{NodeRec, NodeRecs, Records, Tap};
 use std::alloc::{AllocError, Global};
 
 /// What a record that names a session adds to the weight of the session's unit, in bytes: about as many as its line
@@ -19,27 +19,10 @@ const RECORD_WEIGHT: u64 = 64;
 pub(crate) struct Unit {
     /// The number of its first session.
     pub(crate) first: usize,
-    /// How many sessions it has.
-    pub(crate) sessions: usize,
-    /// How many clients' taps name its sessions.
-    pub(crate) clients: usize,
-    /// The nodes' taps whose records name its sessions.
-    pub(crate) nodes: NodeSet,
-    /// The bytes of those clients' taps, and 64 for each of those records.
-    pub(crate) weight: u64,
-}
-
-impl Unit {
-    /// A unit of no session yet, of which the one with this number will be the first.
-    fn new(alloc: Global, first: usize) -> Unit {
-        Unit {
-            first,
-            sessions: 0,
-            clients: 0,
-            nodes: NodeSet::new(alloc),
-            weight: 0,
-        }
-    }
+    /// The part that it is in, once it was put there.
+    pub(crate) part: usize,
+    /// What it brings to that part.
+    pub(crate) load: Load,
 }
 
 /// The units of a recording.
@@ -54,60 +37,51 @@ pub(crate) struct Units {
 /// The units of the sessions, by the taps of the stream and the nodes, and by what the clients' taps tell.
 pub(crate) fn units_of(
     alloc: Global,
-    sessions: &Sessions,
     taps: &[Tap],
     clients: &[MeasuredClient],
+    sessions: &Sessions,
 ) -> Result<Units, AllocError> {
     let mut groups = Groups::new(alloc, sessions.len())?;
-    join_clients(&mut groups, sessions, clients);
-    join_logs(&mut groups, sessions, taps);
-    let mut units = Units::of_groups(alloc, &mut groups, sessions.len())?;
-    units.add_clients(sessions, clients);
-    units.add_taps(sessions, taps)?;
+    join_logs(taps, sessions, &mut groups);
+    join_clients(clients, sessions, &mut groups);
+    let mut units = Units::of_groups(alloc, sessions.len(), &mut groups)?;
+    units.add_clients(clients, sessions);
+    units.add_taps(taps, sessions)?;
     Ok(units)
 }
 
 /// Joins the sessions that one client's tap names.
-fn join_clients(groups: &mut Groups, sessions: &Sessions, clients: &[MeasuredClient]) {
+fn join_clients(clients: &[MeasuredClient], sessions: &Sessions, groups: &mut Groups) {
     for client in clients {
-        join_named(groups, sessions, client.facts.pids.as_slice());
-    }
-}
-
-fn join_named(groups: &mut Groups, sessions: &Sessions, pids: &[Text]) {
-    let mut last = None;
-    for pid in pids {
-        last = join_next(groups, last, sessions.number_of(pid.as_str()));
-    }
-}
-
-/// Joins the sessions of each log that doesn't begin with a `start`.
-fn join_logs(groups: &mut Groups, sessions: &Sessions, taps: &[Tap]) {
-    for tap in taps {
-        if let Records::Node(recs) = &tap.records {
-            if !is_started(recs) {
-                join_log(groups, sessions, recs);
+        let mut last: Option<usize> = None;
+        for pid in client.facts.pids.as_slice() {
+            if let Some(next) = sessions.number_of(pid.as_str()) {
+                groups.join(last.unwrap_or(next), next);
+                last = Some(next);
             }
         }
     }
 }
 
-fn join_log(groups: &mut Groups, sessions: &Sessions, recs: &NodeRecs) {
-    let mut last = None;
-    for number in 0..recs.len() {
-        last = join_next(groups, last, named_by(sessions, &recs[number]));
+/// Joins the sessions of each log that doesn't begin with a `start`.
+fn join_logs(taps: &[Tap], sessions: &Sessions, groups: &mut Groups) {
+    for tap in taps {
+        if let Records::Node(recs) = &tap.records {
+            if !is_started(recs) {
+                join_log(recs, sessions, groups);
+            }
+        }
     }
 }
 
-/// Joins the next session with the last one, where there are both; gives the last one for the next call.
-fn join_next(groups: &mut Groups, last: Option<usize>, next: Option<usize>) -> Option<usize> {
-    let Some(next) = next else {
-        return last;
-    };
-    if let Some(last) = last {
-        groups.join(last, next);
+fn join_log(recs: &NodeRecs, sessions: &Sessions, groups: &mut Groups) {
+    let mut last: Option<usize> = None;
+    for number in 0..recs.len() {
+        if let Some(next) = named_by(&recs[number], sessions) {
+            groups.join(last.unwrap_or(next), next);
+            last = Some(next);
+        }
     }
-    Some(next)
 }
 
 /// Whether the log has no records, or begins with a `start`.
@@ -128,8 +102,16 @@ fn is_start(rec: &NodeRec) -> bool
 }
 
 /// The number of the session that the record names.
-fn named_by(sessions: &Sessions, rec: &NodeRec) -> Option<usize> {
+fn named_by(rec: &NodeRec, sessions: &Sessions) -> Option<usize> {
     match rec.pid() {
+        Some(pid) => sessions.number_of(pid.as_str()),
+        None => None,
+    }
+}
+
+/// The first session that the client's tap names.
+pub(crate) fn first_named(client: &MeasuredClient, sessions: &Sessions) -> Option<usize> {
+    match client.facts.pids.as_slice().first() {
         Some(pid) => sessions.number_of(pid.as_str()),
         None => None,
     }
@@ -137,72 +119,60 @@ fn named_by(sessions: &Sessions, rec: &NodeRec) -> Option<usize> {
 
 impl Units {
     /// A unit for each group, with its sessions alone.
-    fn of_groups(alloc: Global, groups: &mut Groups, count: usize) -> Result<Units, AllocError> {
+    fn of_groups(alloc: Global, count: usize, groups: &mut Groups) -> Result<Units, AllocError> {
         let mut units = Units {
             all: Vec::new(alloc),
             of_sessions: Vec::with_capacity(alloc, count)?,
         };
-        let mut by_group: Vec<Option<usize>> = vec![in alloc; None; count]?;
         for session in 0..count {
-            let group = groups.known_by(session);
-            let begun = by_group.get(group).copied().unwrap_or(None);
-            let number = units.add_session(alloc, session, begun)?;
-            if group < by_group.len() {
-                by_group[group] = Some(number);
-            }
+            units.add_session(alloc, session, groups.least(session))?;
         }
         Ok(units)
     }
 
-    /// The next session goes to the unit with this number, or begins one; gives the number of its unit.
+    /// The next session goes to the unit of an earlier one, or else begins a unit.
     fn add_session(
         &mut self,
         alloc: Global,
         session: usize,
-        begun: Option<usize>,
-    ) -> Result<usize, AllocError> {
-        let number = match begun {
-            Some(number) => number,
-            None => self.begin(alloc, session)?,
-        };
-        if number < self.all.len() {
-            let unit = &mut self.all[number];
-            unit.sessions = unit.sessions.saturating_add(1);
+        earlier: usize,
+    ) -> Result<(), AllocError> {
+        let begun = self.of_sessions.get(earlier).copied();
+        self.of_sessions.push(begun.unwrap_or(self.all.len()))?;
+        if begun.is_none() {
+            self.all.push(Unit {
+                first: session,
+                part: 0,
+                load: Load::new(alloc),
+            })?;
         }
-        self.of_sessions.push(number)?;
-        Ok(number)
+        if let Some(load) = self.load_of(Some(session)) {
+            load.sessions = load.sessions.saturating_add(1);
+        }
+        Ok(())
     }
 
-    /// A unit more, that begins with the session; gives its number.
-    fn begin(&mut self, alloc: Global, session: usize) -> Result<usize, AllocError> {
-        let number = self.all.len();
-        self.all.push(Unit::new(alloc, session))?;
-        Ok(number)
+    /// What the session's unit brings to a part.
+    fn load_of(&mut self, session: Option<usize>) -> Option<&mut Load> {
+        let number = *self.of_sessions.get(session?)?;
+        Some(&mut self.all.get_mut(number)?.load)
     }
 
     /// The clients' taps belong to the units of the sessions that they name.
-    fn add_clients(&mut self, sessions: &Sessions, clients: &[MeasuredClient]) {
+    fn add_clients(&mut self, clients: &[MeasuredClient], sessions: &Sessions) {
         for client in clients {
-            if let Some(session) = first_named(sessions, client) {
-                self.add_client(session, client.bytes);
+            if let Some(load) = self.load_of(first_named(client, sessions)) {
+                load.clients = load.clients.saturating_add(1);
+                load.weight = load.weight.saturating_add(client.bytes);
             }
         }
     }
 
-    fn add_client(&mut self, session: usize, bytes: u64) {
-        let number = self.unit_of(session);
-        if number < self.all.len() {
-            let unit = &mut self.all[number];
-            unit.clients = unit.clients.saturating_add(1);
-            unit.weight = unit.weight.saturating_add(bytes);
-        }
-    }
-
     /// The records of the nodes' taps belong to the units of the sessions that they name.
-    fn add_taps(&mut self, sessions: &Sessions, taps: &[Tap]) -> Result<(), AllocError> {
+    fn add_taps(&mut self, taps: &[Tap], sessions: &Sessions) -> Result<(), AllocError> {
         for (place, tap) in taps.iter().enumerate() {
             if let Records::Node(recs) = &tap.records {
-                self.add_log(sessions, place, recs)?;
+                self.add_log(recs, sessions, place)?;
             }
         }
         Ok(())
@@ -210,41 +180,16 @@ impl Units {
 
     fn add_log(
         &mut self,
+        recs: &NodeRecs,
         sessions: &Sessions,
         place: usize,
-        recs: &NodeRecs,
     ) -> Result<(), AllocError> {
         for number in 0..recs.len() {
-            if let Some(session) = named_by(sessions, &recs[number]) {
-                self.add_record(session, place)?;
+            if let Some(load) = self.load_of(named_by(&recs[number], sessions)) {
+                load.weight = load.weight.saturating_add(RECORD_WEIGHT);
+                load.add_node(place)?;
             }
         }
         Ok(())
-    }
-
-    fn add_record(&mut self, session: usize, place: usize) -> Result<(), AllocError> {
-        let number = self.unit_of(session);
-        if number < self.all.len() {
-            let unit = &mut self.all[number];
-            unit.weight = unit.weight.saturating_add(RECORD_WEIGHT);
-            unit.nodes.insert(place)?;
-        }
-        Ok(())
-    }
-
-    /// The number of the session's unit; past all units where there is no such session.
-    pub(crate) fn unit_of(&self, session: usize) -> usize {
-        self.of_sessions
-            .get(session)
-            .copied()
-            .unwrap_or(self.all.len())
-    }
-}
-
-/// The first session that the client's tap names.
-pub(crate) fn first_named(sessions: &Sessions, client: &MeasuredClient) -> Option<usize> {
-    match client.facts.pids.as_slice().first() {
-        Some(pid) => sessions.number_of(pid.as_str()),
-        None => None,
     }
 }

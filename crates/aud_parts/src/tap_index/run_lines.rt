@@ -100,15 +100,8 @@ impl<'a> Model for RunLines<'a> {
 }
 
 impl<'a> RunLines<'a> {
-    /// The lines of these runs, of which none is read yet.
-    pub fn new(runs: &'a [Run]) -> RunLines<'a>
-        ensures { result ≡ runs.now }
-    {
-        RunLines::after(None, runs)
-    }
-
-    /// What is left of a run, and the runs after it.
-    fn after(left: Option<Run>, others: &'a [Run]) -> RunLines<'a>
+    /// The lines of what is left of a run, and of the runs after it; of which none is read yet.
+    pub fn of(left: Option<Run>, others: &'a [Run]) -> RunLines<'a>
         ensures { result ≡ option_to_list left ++ others.now }
     {
         if left.is_some() {
@@ -143,7 +136,7 @@ impl<'a> RunLines<'a> {
             return Ok(None);
         };
         let (lines, left) = read_front(alloc, source, buffer, &run)?;
-        *self = RunLines::after(left, self.others);
+        *self = RunLines::of(left, self.others);
         Ok(Some(lines))
     }
 }

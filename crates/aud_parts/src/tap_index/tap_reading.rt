@@ -125,7 +125,7 @@ pub fn read_tap<S: RunSource>(
     ensures source { S.files source.new ≡ S.files source.old }
 {
     let mut reading = TapReading::new(alloc, keys);
-    let mut left = RunLines::new(tap.runs());
+    let mut left = RunLines::of(None, tap.runs());
     'pieces: while let Some(lines) = left.next_lines(alloc, source, buffer)? {
         reading.read(&lines)?;
     }

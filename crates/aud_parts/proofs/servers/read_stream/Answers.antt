@@ -16,9 +16,9 @@ returns-in-Ok-clause-read g c = λ files known may header stream.
     let own = subst (λ r. IfOk r (HaveTheirOwnLines lines)) c.in-Ok.is is.own in
     let entries =
     c.in_ok-entries-in-Ok.ensures
-    ∙ ap (λ taps. stream_recs (option_map (λ (t : Tap). t.records) (tap_named c.name.result.now taps))) c.as_slice.ensures
-    ∙ ap (λ name. stream_recs (option_map (λ (t : Tap). t.records) (tap_named name c.in-Ok.read))) c.name.ensures.value in
+    ∙ ap (λ taps. stream_recs (option_map (λ (t : Tap). t.records) (tap_named c.name-in-Ok.result.now taps))) c.as_slice.ensures
+    ∙ ap (λ name. stream_recs (option_map (λ (t : Tap). t.records) (tap_named name c.in-Ok.read))) c.name-in-Ok.ensures.value in
     record {
-      own = stream-own files tap _ c.args.header.now.line c.in-Ok.read own header.first (header.says ∙ ap (λ of. Some (of, c.args.header.now.version)) stream) (c.in_ok-name-in-Ok.ensures ∙ c.name-in-Ok.ensures.value) (ap records.Stream entries);
+      own = stream-own files tap _ c.args.header.now.line c.in-Ok.read own header.first (header.says ∙ ap (λ of. Some (of, c.args.header.now.version)) stream) (c.in_ok-name-in-Ok.ensures ∙ c.name.ensures.value) (ap records.Stream entries);
       numbers = is.numbers;
     }

@@ -25,4 +25,4 @@ loop-session-preserved c =
     (let size : length c.as_slice-session-items.result.now ≡ length l.sessions = ap length same in omega (arith, c.loop-session-test.true, size))
     (c.session-item.is ∙ ap (λ (xs : _). get_or xs c.loop-session.session-index s) same)
     within c.loop-session.invariant c.index_mut.ensures.value
-    (c.in_ok-push.ensures.items ∙ ap (λ (pid : Text). c.index_mut.result.now.items ++ pid ∷ []) (c.new.ensures ∙ c.as_str.ensures))
+    (c.in_ok-push.ensures.items ∙ ap (λ (pid : Text). c.index_mut.result.now.items ++ pid ∷ []) c.in_ok-pid.ensures)

@@ -1,4 +1,4 @@
-use Rattle.std.proofs.Common.{◌≡◌, ◌+◌, ◌++◌, ◌∷◌, [], drop, sym, ap, ◌∙◌}
+use Rattle.std.proofs.Common.{◌+◌, ◌∷◌, drop, sym, ap, ◌∙◌}
 use Rattle.std.proofs.lemmas.List.{drop_more}
 use Rattle.aud_parts.specs.Listing.{session_in, sessions_in}
 use Rattle.aud_parts.proofs.ListingLemmas.{sessions_next, sessions-done, sessions-sound, with_sessions}

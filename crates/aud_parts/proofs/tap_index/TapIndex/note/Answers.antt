@@ -1,18 +1,34 @@
-use Rattle.std.proofs.Common.{◌∙◌, sym, ap}
+use Rattle.std.proofs.Common.{◌∙◌, sym, ap, subst}
+use Rattle.std.proofs.lemmas.Result.{on_ok_weaker}
 use Rattle.aud_input.specs.LineName.{name_of}
 use Rattle.aud_input.proofs.NameLemmas.{name_of-front}
-use Rattle.aud_parts.proofs.LookLemmas.{looks-long, looks-named, looks-unnamed}
+use Rattle.aud_parts.specs.Private.IndexSteps.{Looks}
+use Rattle.aud_parts.proofs.LookLemmas.{looks-empty, looks-long, looks-named, looks-past, looks-some, looks-unnamed}
 use Rattle.aud_parts.proofs.tap_index.TapIndex.note.Goals as goal
 
+pub returns-then-is_some : goal.returns-then-is_some
+returns-then-is_some c = λ text begun to keeps. looks-past c.args.self.now c.args.line text keeps (sym c.if-is_some.ensures)
+
+pub returns-then-measured-eq0 : goal.returns-then-measured-eq0
+returns-then-measured-eq0 c = λ text begun to keeps. looks-empty c.args.self.now c.args.line text c.measured-measured.result keeps c.if-measured-eq0.true (c.measured-measured.ensures c.args.self.now.begun.from text begun)
+
 pub returns-then-measured : goal.returns-then-measured
-returns-then-measured c = λ text begun to keeps. looks-long c.args.self.now c.args.line text c.measured.result keeps c.if-measured.true (c.measured.ensures c.args.self.now.begun.from text begun)
+returns-then-measured c = λ text begun to keeps.
+    let size = c.measured-measured.ensures c.args.self.now.begun.from text begun in
+    subst (Looks c.args.self.now _) (looks-some c.args.self.now c.args.line text c.measured-measured.result c.if-measured-eq0.false size (sym c.if-is_some.ensures))
+    (looks-long c.args.self.now c.args.line text c.measured-measured.result keeps c.if-measured.true size)
 
 pub returns-in-Some : goal.returns-in-Some
 returns-in-Some c = λ text begun to keeps.
+    let size = c.measured-measured.ensures c.args.self.now.begun.from text begun in
     let named = sym (name_of-front text) ∙ ap name_of (sym begun.front ∙ sym c.deref.ensures.value) ∙ sym c.in-Some.ensures.value in
-    looks-named c.note.result c.args.self.now c.note.new.self c.args.line text c.in-Some.name.now c.measured.result to c.if-measured.false (c.measured.ensures c.args.self.now.begun.from text begun) named (c.note.ensures keeps)
+    on_ok_weaker c.note.result
+    (subst (Looks c.args.self.now (record c.args.self.now { runs = c.note.new.self })) (looks-some c.args.self.now c.args.line text c.measured-measured.result c.if-measured-eq0.false size (sym c.if-is_some.ensures)))
+    (looks-named c.note.result c.args.self.now c.note.new.self c.args.line text c.in-Some.name.now c.measured-measured.result to c.if-measured.false size named (c.note.ensures keeps))
 
 pub returns-in-None : goal.returns-in-None
 returns-in-None c = λ text begun to keeps.
+    let size = c.measured-measured.ensures c.args.self.now.begun.from text begun in
     let named = sym (name_of-front text) ∙ ap name_of (sym begun.front ∙ sym c.deref.ensures.value) ∙ sym c.in-None.ensures.value in
-    looks-unnamed c.args.self.now c.args.line text c.measured.result keeps c.if-measured.false (c.measured.ensures c.args.self.now.begun.from text begun) named
+    subst (Looks c.args.self.now _) (looks-some c.args.self.now c.args.line text c.measured-measured.result c.if-measured-eq0.false size (sym c.if-is_some.ensures))
+    (looks-unnamed c.args.self.now c.args.line text c.measured-measured.result keeps c.if-measured.false size named)

@@ -1,0 +1,87 @@
+//! What sessions bring to the part that has them.
+use crate::plan::fault::{Limit, MAX_CLIENT_TAPS, MAX_NODE_TAPS, MAX_SESSIONS};
+use std::alloc::{AllocError, Global};
+
+/// How many places a word has.
+const WORD: usize = 64;
+
+/// What sessions bring to the part that has them.
+#[derive(Drop)]
+pub(crate) struct Load {
+    /// How many sessions these are.
+    pub(crate) sessions: usize,
+    /// How many clients' taps name them.
+    pub(crate) clients: usize,
+    /// The bytes of those taps, and so many for each record of a node's tap that names one of them.
+    pub(crate) weight: u64,
+    /// The nodes' taps whose records name them, by their places among the taps of the stream and of the nodes: a bit
+    /// for each place, none past the last word.
+    nodes: Vec<u64>,
+}
+
+impl Load {
+    /// That of no sessions.
+    pub(crate) fn new(alloc: Global) -> Load {
+        Load {
+            sessions: 0,
+            clients: 0,
+            weight: 0,
+            nodes: Vec::new(alloc),
+        }
+    }
+
+    /// The first limit that a part would pass with both; none where it has room.
+    pub(crate) fn passed_with(&self, other: &Load) -> Option<Limit> {
+        if self.clients.saturating_add(other.clients) > MAX_CLIENT_TAPS {
+            Some(Limit::Clients)
+        } else if self.sessions.saturating_add(other.sessions) > MAX_SESSIONS {
+            Some(Limit::Sessions)
+        } else if count_both(&self.nodes, &other.nodes) > MAX_NODE_TAPS {
+            Some(Limit::Nodes)
+        } else {
+            None
+        }
+    }
+
+    /// Adds another one.
+    pub(crate) fn add(&mut self, other: &Load) -> Result<(), AllocError> {
+        self.sessions = self.sessions.saturating_add(other.sessions);
+        self.clients = self.clients.saturating_add(other.clients);
+        self.weight = self.weight.saturating_add(other.weight);
+        for number in 0..other.nodes.len() {
+            add_bits(&mut self.nodes, number, other.nodes[number])?;
+        }
+        Ok(())
+    }
+
+    /// The tap at this place is one of those of the nodes.
+    pub(crate) fn add_node(&mut self, place: usize) -> Result<(), AllocError> {
+        add_bits(&mut self.nodes, place / WORD, 1u64 << (place % WORD))
+    }
+}
+
+/// The word with this number has these bits too.
+fn add_bits(words: &mut Vec<u64>, number: usize, bits: u64) -> Result<(), AllocError> {
+    for _missing in words.len()..number.saturating_add(1) {
+        words.push(0)?;
+    }
+    if number < words.len() {
+        words[number] |= bits;
+    }
+    Ok(())
+}
+
+/// How many bits are set in one of the two, or in both.
+fn count_both(words: &[u64], others: &[u64]) -> u32 {
+    let mut count = 0u32;
+    for number in 0..words.len().max(others.len()) {
+        let both = word_at(words, number) | word_at(others, number);
+        count = count.saturating_add(both.count_ones());
+    }
+    count
+}
+
+/// The word with this number; no bits past the last one.
+fn word_at(words: &[u64], number: usize) -> u64 {
+    words.get(number).copied().unwrap_or(0)
+}
