@@ -1,5 +1,5 @@
 -- A replay by the rooms that the session held at the break.
-use Rattle.std.specs.Prelude.{ℕ, Bool, ◌&&◌, List, [], ◌∷◌, map, take, Option, Some, None, if◌then◌else◌, nat_eq, nat_lt, slice_get}
+use Rattle.std.specs.Prelude.{ℕ, Bool, ◌&&◌, List, [], find, map, take, Option, Some, None, nat_eq, nat_lt, slice_get}
 use Rattle.std.specs.Cmp.Lexicographic.{pointwise}
 use Rattle.std.specs.List.{filter}
 use Rattle.std.specs.Option.{option_and_then, option_map}
@@ -40,8 +40,7 @@ rooms_at_break c who turns stays f =
 
 -- the position of the first of the frames that is past this one
 abbrev pub first_past : ℕ → List FrameSeen → Option ℕ
-first_past low [] = None
-first_past low (frame ∷ frames) = if nat_lt low frame.position then Some frame.position else first_past low frames
+first_past low frames = option_map (λ (frame : FrameSeen). frame.position) (find (λ (frame : FrameSeen). nat_lt low frame.position) frames)
 
 -- the same in a stay, if there is one
 abbrev pub first_past_in : ℕ → Option StaySeen → Option ℕ

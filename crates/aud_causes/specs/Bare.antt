@@ -1,5 +1,5 @@
 -- A client's tap that may have a session's connection without its packets.
-use Rattle.std.specs.Prelude.{ℕ, suc, Bool, true, false, not, ◌&&◌, List, [], ◌∷◌, Option, Some, None, if◌then◌else◌, nat_eq, slice_get}
+use Rattle.std.specs.Prelude.{ℕ, Bool, true, false, not, ◌&&◌, List, Option, Some, None, if◌then◌else◌, nat_eq, position, slice_get}
 use Rattle.std.specs.Option.{option_map}
 use Rattle.aud_tap.specs.declared.records.ClientRec.{ClientRec}
 use Rattle.aud_tap.specs.declared.records.ClientRec.TheVariants.{Conn, Lost}
@@ -44,13 +44,12 @@ are_bare (records.Client recs) = begins_bare recs
 abbrev pub is_bare : Tap → Bool
 is_bare tap = are_bare tap.records
 
--- the place of the first such tap among these, the first of which is at this place
-abbrev pub bare_from : ℕ → List Tap → Option ℕ
-bare_from place [] = None
-bare_from place (tap ∷ taps) = if is_bare tap then Some place else bare_from (suc place) taps
+-- the place of the first such tap among these
+abbrev pub bare_place : List Tap → Option ℕ
+bare_place taps = position is_bare taps
 
 abbrev pub first_bare : List Tap → Option Cause
-first_bare taps = option_map ClientTapHasNoPackets (bare_from 0 taps)
+first_bare taps = option_map ClientTapHasNoPackets (bare_place taps)
 
 -- ---- the cause
 

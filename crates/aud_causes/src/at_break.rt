@@ -1,8 +1,7 @@
 //! A replay by the rooms that the session held at the break.
-ghost use Rattle.std.specs.Prelude.{◌≡◌, IfOk, Some, map, nat_eq, option_map, slice_get};
+ghost use Rattle.std.specs.Prelude.{◌≡◌, IfOk, map, nat_eq, slice_get};
 ghost use Rattle.std.specs.Cmp.Lexicographic.{pointwise};
 ghost use Rattle.aud_maker.specs.Made.{IsMade};
-ghost use Rattle.aud_client.specs.StaySeen.{FrameSeen};
 ghost use Rattle.aud_causes.specs.AtBreak.{came_within, due_at_break, first_came, first_past, first_taken, is_by_rooms_at_break, rooms_at_break};
 
 use crate::cause::Cause;
@@ -123,17 +122,10 @@ fn came_within(
     ensures { IfOk result (λ came. came.items
         ≡ came_within (slice_get (map (λ stay. stay.now) stays.now) number) replay) }
 {
-    match stay_at(stays, number) {
-        Some(stay) => came_in(alloc, stay, replay),
-        None => Ok(Vec::new(alloc)),
-    }
-}
-
-/// The same of this stay.
-fn came_in(alloc: Global, stay: &Stay<'_>, replay: Replay) -> Result<Vec<u64>, AllocError>
-    ensures { IfOk result (λ came. came.items ≡ came_within (Some stay.now) replay) }
-{
     let mut came = Vec::new(alloc);
+    let Some(stay) = stay_at(stays, number) else {
+        return Ok(came);
+    };
     for frame in &stay.frames {
         if is_replayed(replay, frame.position) {
             came.push(frame.position)?;
@@ -156,13 +148,7 @@ pub(crate) fn first_taken(stays: &[&Stay<'_>], facts: Facts) -> Option<u64>
 pub(crate) fn first_came(stays: &[&Stay<'_>], facts: Facts) -> Option<u64>
     ensures { result ≡ first_came (map (λ stay. stay.now) stays.now) facts }
 {
-    first_position(stay_at(stays, facts.later)?)
-}
-
-fn first_position(stay: &Stay<'_>) -> Option<u64>
-    ensures { result ≡ option_map (λ (frame : FrameSeen). frame.position)
-        (slice_get stay.now.frames 0) }
-{
+    let stay = stay_at(stays, facts.later)?;
     let frame = stay.frames.get(0)?;
     Some(frame.position)
 }
@@ -171,10 +157,6 @@ fn first_position(stay: &Stay<'_>) -> Option<u64>
 fn first_past(frames: &[Frame<'_>], low: u64) -> Option<u64>
     ensures { result ≡ first_past low frames.now }
 {
-    for frame in frames {
-        if low < frame.position {
-            return Some(frame.position);
-        }
-    }
-    None
+    let frame = frames.iter().find(|frame| low < frame.position)?;
+    Some(frame.position)
 }

@@ -1,7 +1,7 @@
 //! A client's tap that may have a session's connection without its packets.
 ghost use Rattle.std.specs.Prelude.{◌≡◌, IfOk};
 ghost use Rattle.std.specs.Option.{option_copied};
-ghost use Rattle.aud_causes.specs.Bare.{bare_from, begins_bare, begins_connection, first_bare, is_bare, is_packet, tap_without_packets};
+ghost use Rattle.aud_causes.specs.Bare.{bare_place, begins_bare, first_bare, is_bare, is_packet, tap_without_packets};
 
 use crate::cause::Cause;
 use crate::turns::turn_count;
@@ -30,20 +30,15 @@ pub(crate) fn tap_without_packets(
 fn first_bare(taps: &[Tap]) -> Option<Cause>
     ensures { result ≡ first_bare taps.now }
 {
-    let client = bare_from(taps)?;
+    let client = bare_place(taps)?;
     Some(Cause::ClientTapHasNoPackets { client })
 }
 
 /// Its place.
-fn bare_from(taps: &[Tap]) -> Option<usize>
-    ensures { result ≡ bare_from 0 taps.now }
+fn bare_place(taps: &[Tap]) -> Option<usize>
+    ensures { result ≡ bare_place taps.now }
 {
-    for (place, tap) in taps.iter().enumerate() {
-        if is_bare(tap) {
-            return Some(place);
-        }
-    }
-    None
+    taps.iter().position(|tap| is_bare(tap))
 }
 
 /// Whether the tap is a client's, and its first connection has no packet.
@@ -59,16 +54,7 @@ fn is_bare(tap: &Tap) -> bool
 fn begins_bare(recs: &[ClientRec]) -> bool
     ensures { result ≡ begins_bare recs.now }
 {
-    begins_connection(recs.get(0)) && !is_packet(recs.get(1))
-}
-
-fn begins_connection(rec: Option<&ClientRec>) -> bool
-    ensures { result ≡ begins_connection (option_copied rec.entry) }
-{
-    match rec {
-        Some(ClientRec::Conn { .. }) => true,
-        _ => false,
-    }
+    matches!(recs.get(0), Some(ClientRec::Conn { .. })) && !is_packet(recs.get(1))
 }
 
 /// Whether there is a record, and it is of packets.

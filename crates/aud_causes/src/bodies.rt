@@ -1,13 +1,13 @@
 //! What came twice because a body of polling did.
 ghost use Rattle.std.specs.Prelude.{◌≡◌, None, slice_get};
 ghost use Rattle.std.specs.Option.{option_copied};
-ghost use Rattle.aud_causes.specs.Bodies.{are_equal_bodies, are_same, body_at, body_before, body_twice, client_record, equal_bodies, frames_there, is_one_body, last_of, last_record, places_at, record_of, record_there};
+ghost use Rattle.aud_causes.specs.Bodies.{are_equal_bodies, body_at, body_before, body_twice, client_record, equal_bodies, frames_there, is_one_body, last_of, last_record, places_at, record_of};
 
 use crate::cause::Cause;
 use crate::facts::Facts;
+use crate::lines::frame_in;
 use crate::list::front_of;
 use aud_client::{Recording, StayPlaces};
-use aud_session_facts::{FramePlace, frame_at};
 use aud_tap::{ClientRec, Text};
 
 /// Where the two frames stand in one stay, and came in two bodies of polling of the same text; or where they stand in two
@@ -63,23 +63,15 @@ fn are_equal_bodies(
     let Some(again) = again else {
         return false;
     };
-    first != again
-        && are_same(
-            body_at(recording, client, first),
-            body_at(recording, client, again),
-        )
-}
-
-/// Whether both are there, and are the same.
-fn are_same(first: Option<&Text>, again: Option<&Text>) -> bool
-    ensures { result ≡ are_same (option_copied first.entry) (option_copied again.entry) }
-{
-    let Some(first) = first else {
+    if first == again {
         return false;
-    };
-    match again {
-        Some(again) => first.as_str() == again.as_str(),
-        None => false,
+    }
+    match (
+        body_at(recording, client, first),
+        body_at(recording, client, again),
+    ) {
+        (Some(first), Some(again)) => first.as_str() == again.as_str(),
+        _ => false,
     }
 }
 
@@ -148,15 +140,9 @@ fn record_of(
 ) -> Option<usize>
     ensures { result ≡ record_of recording.now client numbers.now frame }
 {
-    let stays = recording.client(client)?.transcript().stays.as_slice();
-    let at = frame_at(stays, numbers, frame)?;
-    record_there(places_at(recording, client), at)
-}
-
-fn record_there(places: &[StayPlaces], at: FramePlace) -> Option<usize>
-    ensures { result ≡ record_there places.now at }
-{
-    let number = *places.get(at.stay)?.frames.get(at.frame)?;
+    let at = frame_in(recording, client, numbers, frame)?;
+    let places = places_at(recording, client).get(at.stay)?;
+    let number = *places.frames.get(at.frame)?;
     Some(number as usize)
 }
 

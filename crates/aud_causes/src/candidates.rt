@@ -1,7 +1,7 @@
 //! Which causes a fault can have, and which of them were refuted.
-ghost use Rattle.std.specs.Prelude.{◌≡◌, ◌++◌, ◌∷◌, [], IfOk, OnOk, map};
+ghost use Rattle.std.specs.Prelude.{◌≡◌, IfOk, map};
 ghost use Rattle.std.specs.List.{filter};
-ghost use Rattle.aud_causes.specs.Candidates.{candidates, candidates_for, is_told, is_untold, refuted, refuted_of_refusal, text_of};
+ghost use Rattle.aud_causes.specs.Candidates.{candidates, is_told, is_untold, refuted, refuted_of_refusal, text_of};
 
 use crate::found::CauseFound;
 use aud_cert::Fault;
@@ -139,37 +139,7 @@ fn candidates(fault: &Fault) -> &'static [&'static str]
 fn is_told(told: &[CauseFound], id: &str) -> bool
     ensures { result ≡ is_told told.now id.now }
 {
-    for cause in told {
-        if cause.id == id {
-            return true;
-        }
-    }
-    false
-}
-
-/// Adds the name, if none of the causes has it.
-fn push_untold(
-    ids: &mut Vec<&'static str>,
-    told: &[CauseFound],
-    id: &'static str,
-) -> Result<(), AllocError>
-    ensures { OnOk result (map text_of ids.new.items
-        ≡ map text_of ids.old.items ++ filter (is_untold told.now) (id.now ∷ [])) }
-{
-    if !is_told(told, id) {
-        ids.push(id)?;
-    }
-    Ok(())
-}
-
-/// Those of the fault, where the verdict is no.
-fn candidates_for(verdict: &Verdict) -> &'static [&'static str]
-    ensures { map text_of result.now ≡ candidates_for verdict.now }
-{
-    match verdict {
-        Verdict::Yes { .. } => &[],
-        Verdict::No(fault) => candidates(fault),
-    }
+    told.iter().any(|cause| cause.id == id)
 }
 
 /// The names of the causes that the session's fault can have and that were refuted, in their order: of those that are
@@ -181,7 +151,10 @@ pub fn refuted(
 ) -> Result<Vec<&'static str>, AllocError>
     ensures { IfOk result (λ ids. map text_of ids.items ≡ refuted verdict.now told.now) }
 {
-    untold_of(alloc, candidates_for(verdict), told)
+    match verdict {
+        Verdict::Yes { .. } => Ok(Vec::new(alloc)),
+        Verdict::No(fault) => untold_of(alloc, candidates(fault), told),
+    }
 }
 
 /// The names of the causes that a refused recovery can have and that were refuted, in their order: of those that are
@@ -206,7 +179,9 @@ fn untold_of(
 {
     let mut untold = Vec::new(alloc);
     for id in ids {
-        push_untold(&mut untold, told, *id)?;
+        if !is_told(told, *id) {
+            untold.push(*id)?;
+        }
     }
     Ok(untold)
 }

@@ -1,8 +1,8 @@
 //! A change of a room that no log has: with it what came would be what was due.
-ghost use Rattle.std.specs.Prelude.{◌≡◌, ◌++◌, ◌∷◌, [], IfOk, OnOk};
+ghost use Rattle.std.specs.Prelude.{◌≡◌, IfOk};
 ghost use Rattle.std.specs.List.{filter};
 ghost use Rattle.aud_session_facts.specs.Opened.{opened_in};
-ghost use Rattle.aud_causes.specs.Changed.{fits_with, fits_with_any, greatest, is_as_due, is_of_other, is_within, namespace_in, spans_with, stretch_of, up_to};
+ghost use Rattle.aud_causes.specs.Changed.{fits_with, fits_with_any, greatest, is_as_due, is_of_other, is_within, namespace_in, spans_with, stretch_of};
 
 use crate::at_break::are_same;
 use crate::next_change::next_change;
@@ -112,12 +112,16 @@ fn stretch_of(
 ) -> Stretch
     ensures { result ≡ stretch_of logs.now pid.now turns.now came.now room.now position }
 {
-    Stretch {
-        first: position,
-        last: up_to(
-            greatest(came),
-            next_change(logs, pid, turns, room, position),
-        ),
+    let last = greatest(came);
+    match next_change(logs, pid, turns, room, position) {
+        Some(reached) => Stretch {
+            first: position,
+            last: reached.min(last),
+        },
+        None => Stretch {
+            first: position,
+            last,
+        },
     }
 }
 
@@ -132,32 +136,14 @@ fn greatest(positions: &[u64]) -> u64
     last
 }
 
-fn up_to(last: u64, reached: Option<u64>) -> u64
-    ensures { result ≡ up_to last reached }
-{
-    match reached {
-        Some(reached) => reached.min(last),
-        None => last,
-    }
-}
-
 /// Those of the positions that the stretch has.
 fn within(alloc: Global, came: &[u64], stretch: Stretch) -> Result<Vec<u64>, AllocError>
     ensures { IfOk result (λ within. within.items ≡ filter (is_within stretch) came.now) }
 {
-    let mut within = Vec::new(alloc);
-    for position in came {
-        if is_within(stretch, *position) {
-            within.push(*position)?;
-        }
-    }
-    Ok(within)
-}
-
-fn is_within(stretch: Stretch, position: u64) -> bool
-    ensures { result ≡ is_within stretch position }
-{
-    stretch.first <= position && position <= stretch.last
+    came.iter()
+        .copied()
+        .filter(|position| stretch.first <= *position && *position <= stretch.last)
+        .collect(alloc)
 }
 
 /// The rooms' spans, where the session holds this room over the stretch, if it `joined` it, or doesn't; they borrow the
@@ -189,29 +175,16 @@ fn others<'s>(alloc: Global, spans: &'s [Span<'_>], room: &str) -> Result<Vec<Sp
 {
     let mut others = Vec::new(alloc);
     for span in spans {
-        push_other(&mut others, span, room)?;
+        let name = span.room.as_str();
+        if name != room {
+            others.push(Span {
+                room: CowStr::Borrowed(name),
+                first: span.first,
+                last: span.last,
+            })?;
+        }
     }
     Ok(others)
-}
-
-/// Adds the span, if it is of another room.
-fn push_other<'s>(
-    others: &mut Vec<Span<'s>>,
-    span: &'s Span<'_>,
-    room: &str,
-) -> Result<(), AllocError>
-    ensures { OnOk result (others.new.items
-        ≡ others.old.items ++ filter (is_of_other room.now) (span.now ∷ [])) }
-{
-    let name = span.room.as_str();
-    if name != room {
-        others.push(Span {
-            room: CowStr::Borrowed(name),
-            first: span.first,
-            last: span.last,
-        })?;
-    }
-    Ok(())
 }
 
 /// The namespace in which the session of these turns was opened.

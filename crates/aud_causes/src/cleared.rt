@@ -2,10 +2,10 @@
 ghost use Rattle.std.specs.Prelude.{◌≡◌, ◌++◌, None, OnOk};
 ghost use Rattle.std.specs.Option.{option_copied};
 ghost use Rattle.aud_node.specs.OwnRecords.{own_numbers};
-ghost use Rattle.aud_causes.specs.Cleared.{broke_by, cleared_after_break, cleared_at, cleared_by, cleared_in, cleared_on, first_cleared};
+ghost use Rattle.aud_causes.specs.Cleared.{broke_by, cleared_after_break, cleared_at, cleared_on, first_cleared};
 
 use crate::cause::Cause;
-use crate::list::push_cause;
+use crate::list::push_some;
 use aud_node::{Logs, NodeLog};
 use aud_session_facts::RecordPlace;
 use aud_tap::NodeRec;
@@ -21,21 +21,8 @@ pub(crate) fn push_cleared(
     ensures { OnOk result (found.new.items
         ≡ found.old.items ++ cleared_after_break logs.now pid.now) }
 {
-    push_cleared_on(logs, pid, logs.nodes_of(pid), found)
-}
-
-/// The same of these nodes.
-fn push_cleared_on(
-    logs: &Logs<'_>,
-    pid: &str,
-    nodes: &[usize],
-    found: &mut Vec<Cause>,
-) -> Result<(), AllocError>
-    ensures { OnOk result (found.new.items
-        ≡ found.old.items ++ cleared_in logs.now pid.now nodes.now) }
-{
-    for node in nodes {
-        push_cause(found, cleared_on(logs, pid, *node))?;
+    for node in logs.nodes_of(pid) {
+        push_some(found, cleared_on(logs, pid, *node))?;
     }
     Ok(())
 }
@@ -75,12 +62,7 @@ fn cleared_at(
 ) -> Option<Cause>
     ensures { result ≡ cleared_at place (option_copied rec.entry) broke }
 {
-    cleared_by(broke?, place, rec)
-}
-
-fn cleared_by(broke: RecordPlace, place: RecordPlace, rec: Option<&NodeRec>) -> Option<Cause>
-    ensures { result ≡ cleared_by broke place (option_copied rec.entry) }
-{
+    let broke = broke?;
     match rec {
         Some(NodeRec::Leave { .. } | NodeRec::Gone { .. }) => Some(Cause::ClearedAfterBreak {
             broke,

@@ -1,12 +1,11 @@
 //! What an event that isn't its entry may come from.
 ghost use Rattle.std.specs.Prelude.{◌≡◌, ◌&&◌, IfOk, map, not, option_map};
-ghost use Rattle.std.specs.Option.{option_copied};
 ghost use Rattle.serde_json.specs.View.{view};
 ghost use Rattle.aud_sio.specs.Message.{blob_bytes};
 ghost use Rattle.aud_sio.specs.Assembly.{blob_view};
 ghost use Rattle.aud_causes.specs.Delivery.{cause_if};
 ghost use Rattle.aud_client.specs.Replies.{value_of};
-ghost use Rattle.aud_causes.specs.Contents.{are_same, are_same_in_any_order, content_causes, causes_against, elements, event_causes, is_as_often, is_other_call, is_other_event, of_both, said_in, said_view, says_same, times};
+ghost use Rattle.aud_causes.specs.Contents.{are_same, are_same_in_any_order, content_causes, elements, event_causes, is_as_often, is_other_call, is_other_event, of_both, said_in, said_view, says_same};
 
 use crate::cause::Cause;
 use crate::list::held;
@@ -33,19 +32,6 @@ pub(crate) fn content_causes(
 {
     let frame = frame_of(recording, Some(client), numbers, altered.frame);
     let entry = recording.logs().stream().entry(altered.position);
-    causes_against(alloc, frame, entry, altered)
-}
-
-/// The same of this frame, where it is there and its entry is an event.
-fn causes_against(
-    alloc: Global,
-    frame: Option<&Frame<'_>>,
-    entry: Option<&StreamRec>,
-    altered: Altered,
-) -> Result<Vec<Cause>, AllocError>
-    ensures { IfOk result (λ causes. causes.items
-        ≡ causes_against (option_copied frame.entry) (option_copied entry.entry) altered) }
-{
     match (frame, entry) {
         (Some(frame), Some(StreamRec::Ev(event))) => event_causes(alloc, frame, event, altered),
         _ => held(
@@ -255,17 +241,11 @@ fn are_same_in_any_order(bin: &[Blob<'_>], others: &[Bytes]) -> bool
 fn is_as_often(bin: &[Blob<'_>], others: &[Bytes], one: &Bytes) -> bool
     ensures { result ≡ is_as_often (map blob_bytes (map blob_view bin.now)) others.now one.now }
 {
-    times_in_blobs(one.as_slice(), bin) == times(one.as_slice(), others)
-}
-
-fn times_in_blobs(one: &[u8], bin: &[Blob<'_>]) -> usize
-    ensures { result ≡ times one.now (map blob_bytes (map blob_view bin.now)) }
-{
-    bin.iter().filter(|blob| one == blob.as_slice()).count()
-}
-
-fn times(one: &[u8], bin: &[Bytes]) -> usize
-    ensures { result ≡ times one.now bin.now }
-{
-    bin.iter().filter(|bytes| one == bytes.as_slice()).count()
+    let one = one.as_slice();
+    let here = bin.iter().filter(|blob| one == blob.as_slice());
+    here.count()
+        == others
+            .iter()
+            .filter(|other| one == other.as_slice())
+            .count()
 }

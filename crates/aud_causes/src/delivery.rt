@@ -12,10 +12,10 @@ use crate::cause::Cause;
 use crate::extra::{before_birth, change_missing, extra_live, late_leave, log_ended_early};
 use crate::facts::{Facts, facts_of};
 use crate::leavable::leave_missing;
-use crate::list::{held, push_cause};
+use crate::list::{held, push_some};
 use crate::live::{
-    doubled_in_replay, doubled_live, lost_live, replay_includes_offset, sent_again,
-    skipped_in_window, stale_offset, swapped_in_replay, swapped_live,
+    is_in_replay, is_live, is_taken_live, replay_includes_offset, sent_again, skipped_in_window,
+    stale_offset,
 };
 use crate::unrecorded::recovery_not_recorded;
 use aud_cert::Turn;
@@ -46,7 +46,7 @@ pub(crate) fn difference_causes(
     let facts = facts_of(logs.stream(), turns, stays, difference);
     let unrecorded = recovery_not_recorded(alloc, turns, stays, facts)?;
     let mut found = causes_by(alloc, recording, account, numbers, difference, facts)?;
-    push_cause(&mut found, unrecorded)?;
+    push_some(&mut found, unrecorded)?;
     Ok(found)
 }
 
@@ -117,6 +117,7 @@ fn doubled_causes(
     ensures { IfOk result (λ found. found.items
         ≡ doubled_causes logs.now turns.now (map (λ stay. stay.now) stays.now) body facts) }
 {
+    let (first, again) = (facts.parted.first, facts.parted.again);
     held(
         alloc,
         &[
@@ -125,8 +126,8 @@ fn doubled_causes(
             replay_includes_offset(facts, first_came(stays, facts)),
             stale_offset(facts),
             body,
-            doubled_in_replay(facts),
-            doubled_live(facts),
+            is_in_replay(facts).then_some(Cause::DoubledInReplay { first, again }),
+            is_live(facts).then_some(Cause::DoubledLive { first, again }),
         ],
     )
 }
@@ -140,12 +141,13 @@ fn swapped_causes(
 ) -> Result<Vec<Cause>, AllocError>
     ensures { IfOk result (λ found. found.items ≡ swapped_causes logs.now turns.now facts) }
 {
+    let (first, again) = (facts.parted.first, facts.parted.again);
     held(
         alloc,
         &[
             node_behind(logs, turns, facts),
-            swapped_in_replay(facts),
-            swapped_live(facts),
+            is_in_replay(facts).then_some(Cause::SwappedInReplay { first, again }),
+            is_live(facts).then_some(Cause::SwappedLive { first, again }),
         ],
     )
 }
@@ -160,6 +162,7 @@ fn lost_causes(
 ) -> Result<Vec<Cause>, AllocError>
     ensures { IfOk result (λ found. found.items ≡ lost_causes at_break due.now leave facts) }
 {
+    let frame = facts.parted.again;
     held(
         alloc,
         &[
@@ -167,7 +170,7 @@ fn lost_causes(
             skipped_in_window(facts),
             other_session_after(due, facts),
             frame_not_recorded(due, facts),
-            lost_live(facts),
+            is_taken_live(facts).then_some(Cause::LostLive { frame }),
             leave,
         ],
     )

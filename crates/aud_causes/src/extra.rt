@@ -1,10 +1,9 @@
 //! Why an event came that was not due.
-ghost use Rattle.std.specs.Prelude.{◌≡◌, IfOk, Some, map, option_map};
+ghost use Rattle.std.specs.Prelude.{◌≡◌, IfOk, map, option_map};
 ghost use Rattle.std.specs.Option.{option_copied};
 ghost use Rattle.aud_cert.specs.Certificate.{turn_at};
 ghost use Rattle.aud_session_facts.specs.NotDue.{reason_of};
-ghost use Rattle.aud_session_facts.specs.Reasons.{Excepted, NoCommonRoom};
-ghost use Rattle.aud_causes.specs.Extra.{before_birth, change_missing, ends_turn, extra_live, first_left, goes_on, is_unaddressed, late_leave, left_before, log_ended_early, reached_at, rooms_named};
+ghost use Rattle.aud_causes.specs.Extra.{before_birth, change_missing, ends_turn, extra_live, first_left, goes_on, late_leave, left_before, log_ended_early, reached_at, rooms_named};
 
 use crate::behind::{first_of, last_of};
 use crate::cause::Cause;
@@ -163,23 +162,16 @@ pub(crate) fn extra_live(
 ) -> Option<Cause>
     ensures { result ≡ extra_live told (option_map reason_of why.now) facts }
 {
-    if told.is_some() || !is_outside(facts) || !is_unaddressed(why) {
+    if told.is_some() || !is_outside(facts) {
         return None;
     }
-    Some(Cause::ExtraLive {
-        frame: facts.parted.again,
-    })
-}
-
-/// Whether the entry was not addressed to the session.
-fn is_unaddressed(why: &Option<NotDue<'_>>) -> bool
-    ensures { result ≡ is_unaddressed (option_map reason_of why.now) }
-{
     match why {
-        Some(NotDue::OtherNamespace) => true,
-        Some(NotDue::NoCommonRoom) => true,
-        Some(NotDue::Excepted { .. }) => true,
-        _ => false,
+        Some(NotDue::OtherNamespace | NotDue::NoCommonRoom | NotDue::Excepted { .. }) => {
+            Some(Cause::ExtraLive {
+                frame: facts.parted.again,
+            })
+        }
+        _ => None,
     }
 }
 
@@ -198,63 +190,18 @@ pub(crate) fn change_missing(
     ensures { IfOk result (λ cause. cause ≡ change_missing logs.now pid.now turns.now spans.now
         came.now (option_map reason_of why.now) facts) }
 {
+    let position = facts.parted.position;
+    let frame = facts.parted.again;
     match why {
-        Some(NotDue::NoCommonRoom) => { join_missing(alloc, logs, pid, turns, spans, came, facts) }
-        Some(NotDue::Excepted { room }) => {
-            excepted_missing(alloc, logs, pid, turns, spans, came, *room, facts)
+        Some(NotDue::NoCommonRoom) if is_outside(facts) => {
+            let rooms = rooms_named(logs.stream().entry(position));
+            let fits = fits_with_any(alloc, logs, pid, turns, spans, came, true, position, rooms)?;
+            Ok(fits.then_some(Cause::JoinMissing { frame }))
+        }
+        Some(NotDue::Excepted { room }) if is_outside(facts) => {
+            let fits = fits_with(alloc, logs, pid, turns, spans, came, false, position, *room)?;
+            Ok(fits.then_some(Cause::LeaveMissing { frame }))
         }
         _ => Ok(None),
     }
-}
-
-/// Of an entry that is for rooms, where the session held none of them.
-fn join_missing(
-    alloc: Global,
-    logs: &Logs<'_>,
-    pid: &str,
-    turns: &[Turn<'_>],
-    spans: &[Span<'_>],
-    came: &[u64],
-    facts: Facts,
-) -> Result<Option<Cause>, AllocError>
-    ensures { IfOk result (λ cause. cause ≡ change_missing logs.now pid.now turns.now spans.now
-        came.now (Some NoCommonRoom) facts) }
-{
-    if !is_outside(facts) {
-        return Ok(None);
-    }
-    let position = facts.parted.position;
-    let rooms = rooms_named(logs.stream().entry(position));
-    if !fits_with_any(alloc, logs, pid, turns, spans, came, true, position, rooms)? {
-        return Ok(None);
-    }
-    Ok(Some(Cause::JoinMissing {
-        frame: facts.parted.again,
-    }))
-}
-
-/// Of an entry that excepts this room, which the session held.
-fn excepted_missing(
-    alloc: Global,
-    logs: &Logs<'_>,
-    pid: &str,
-    turns: &[Turn<'_>],
-    spans: &[Span<'_>],
-    came: &[u64],
-    room: &str,
-    facts: Facts,
-) -> Result<Option<Cause>, AllocError>
-    ensures { IfOk result (λ cause. cause ≡ change_missing logs.now pid.now turns.now spans.now
-        came.now (Some (Excepted room.now)) facts) }
-{
-    if !is_outside(facts) {
-        return Ok(None);
-    }
-    let position = facts.parted.position;
-    if !fits_with(alloc, logs, pid, turns, spans, came, false, position, room)? {
-        return Ok(None);
-    }
-    Ok(Some(Cause::LeaveMissing {
-        frame: facts.parted.again,
-    }))
 }

@@ -3,12 +3,11 @@ ghost use Rattle.std.specs.Prelude.{◌≡◌, Some, length, map, slice_get};
 ghost use Rattle.std.specs.List.{list_all};
 ghost use Rattle.std.specs.Option.{option_copied};
 ghost use Rattle.aud_client.specs.Received.{is_recovered};
-ghost use Rattle.aud_check.specs.Frames.{asked_position};
 ghost use Rattle.aud_causes.specs.Facts.{ask_in_reach, asked_after, begin_as_turns, earlier_stay, facts_of, is_recovery, is_up_to, low_of_turn, parted_at, replay_of, stay_of_frame, stays_match};
 
 use aud_cert::Turn;
 use aud_check::Difference;
-use aud_client::{Asked, Stay};
+use aud_client::Stay;
 use aud_node::Stream;
 
 /// The entry at which what was received parts from what was due, and two frames: of an entry that came twice both; of
@@ -123,19 +122,13 @@ fn stay_of_frame(stays: &[&Stay<'_>], frame: usize) -> usize
 {
     let mut left = frame;
     for (number, stay) in stays.iter().enumerate() {
-        let count = frame_count(*stay);
+        let count = stay.frames.len();
         if left < count {
             return number;
         }
         left -= count;
     }
     stays.len()
-}
-
-fn frame_count(stay: &Stay<'_>) -> usize
-    ensures { result ≡ length stay.now.frames }
-{
-    stay.frames.len()
 }
 
 /// The stay with this number.
@@ -170,13 +163,7 @@ fn asked_in(stream: &Stream<'_>, stay: &Stay<'_>) -> Option<u64>
     if !stay.is_recovered() {
         return None;
     }
-    asked_position(stream, stay.asked.as_ref()?)
-}
-
-/// The position of the offset that was asked with.
-fn asked_position(stream: &Stream<'_>, asked: &Asked) -> Option<u64>
-    ensures { result ≡ asked_position stream.now (Some asked.now) }
-{
+    let asked = stay.asked.as_ref()?;
     stream.position(asked.offset.as_ref()?.as_str())
 }
 

@@ -1,10 +1,8 @@
 //! What a fault may come from of a session that has a certificate.
-ghost use Rattle.std.specs.Prelude.{◌≡◌, ◌∷◌, [], IfOk, map};
+ghost use Rattle.std.specs.Prelude.{◌≡◌, IfOk, map};
 ghost use Rattle.aud_maker.specs.Made.{IsMade};
-ghost use Rattle.aud_causes.specs.declared.cause.Cause.TheVariants.{NotAPacket};
 ghost use Rattle.aud_causes.specs.Differences.{case_of};
 ghost use Rattle.aud_causes.specs.Judged.{causes_found, judged_causes, names_causes, orphan_at};
-ghost use Rattle.aud_causes.specs.NoPacket.{no_packet_in};
 
 use crate::cause::Cause;
 use crate::contents::content_causes;
@@ -37,8 +35,11 @@ pub(crate) fn judged_causes(
         account.now.client orphan fault.now account.now.found) }
 {
     match fault {
-        Fault::Names => names_of(alloc, account),
-        Fault::Frame => frame_of(alloc, recording, account.client),
+        Fault::Names => names_causes(alloc, &account.cert.turns, &account.stays),
+        Fault::Frame => {
+            let why = no_packet_in(alloc, recording, account.client)?;
+            held(alloc, &[Some(Cause::NotAPacket { why })])
+        }
         Fault::Orphan => orphan_at(alloc, recording, account.client, orphan),
         _ => causes_found(alloc, recording, account, numbers, account.found_for(fault)),
     }
@@ -72,32 +73,7 @@ fn causes_found(
     }
 }
 
-/// The cause of the first record that is no packet of the client's tap at this place.
-fn frame_of(
-    alloc: Global,
-    recording: &Recording<'_>,
-    client: usize,
-) -> Result<Vec<Cause>, AllocError>
-    ensures { IfOk result (λ found. found.items
-        ≡ NotAPacket (no_packet_in recording.now client) ∷ []) }
-{
-    let why = no_packet_in(alloc, recording, client)?;
-    held(alloc, &[Some(Cause::NotAPacket { why })])
-}
-
-/// What differs between the session's `open` and the replies that name it.
-fn names_of(alloc: Global, account: &Account<'_, '_>) -> Result<Vec<Cause>, AllocError>
-    ensures { IfOk result (λ found. found.items
-        ≡ names_causes account.now.cert.turns (map (λ stay. stay.now) account.now.stays.items)) }
-{
-    names_causes(
-        alloc,
-        account.cert.turns.as_slice(),
-        account.stays.as_slice(),
-    )
-}
-
-/// The same of these turns and stays.
+/// What differs between the session's `open` and the replies that name it, where these are its turns and stays.
 fn names_causes(
     alloc: Global,
     turns: &[Turn<'_>],

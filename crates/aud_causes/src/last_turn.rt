@@ -24,24 +24,19 @@ pub(crate) fn last_begin(marks: &[TurnMark]) -> Option<RecordPlace>
 fn begin_of(marks: &[TurnMark], turn: usize) -> Option<RecordPlace>
     ensures { result ≡ begin_of marks.now turn }
 {
-    for mark in marks {
-        if is_turn(turn, begun_turn(mark.mark)) {
-            return Some(mark.place);
-        }
-    }
-    None
+    let mark = marks
+        .iter()
+        .find(|mark| is_turn(turn, begun_turn(mark.mark)))?;
+    Some(mark.place)
 }
 
 /// Whether a record breaks the turn.
 pub(crate) fn is_broken(marks: &[TurnMark], turn: usize) -> bool
     ensures { result ≡ is_broken marks.now turn }
 {
-    for mark in marks {
-        if is_turn(turn, broken_turn(mark.mark)) {
-            return true;
-        }
-    }
-    false
+    marks
+        .iter()
+        .any(|mark| is_turn(turn, broken_turn(mark.mark)))
 }
 
 /// Whether it is this turn.
@@ -58,12 +53,7 @@ pub(crate) fn is_turn(turn: usize, other: Option<u16>) -> bool
 pub(crate) fn is_ended(marks: &[TurnMark], begin: RecordPlace) -> bool
     ensures { result ≡ is_ended marks.now begin }
 {
-    for mark in marks {
-        if ends_after(begin, *mark) {
-            return true;
-        }
-    }
-    false
+    marks.iter().any(|mark| ends_after(begin, *mark))
 }
 
 fn ends_after(begin: RecordPlace, mark: TurnMark) -> bool

@@ -1,14 +1,15 @@
 //! The lines of the records that show a cause.
-ghost use Rattle.std.specs.Prelude.{◌≡◌, ◌++◌, IfOk, IfSome, OnOk, flat_map, option_map, option_to_list};
+ghost use Rattle.std.specs.Prelude.{◌≡◌, IfOk, IfSome, flat_map, option_map, option_to_list};
 ghost use Rattle.std.specs.Option.{option_and_then, option_copied};
 ghost use Rattle.aud_rows.specs.ClientPlaces.{AreOf};
 ghost use Rattle.aud_rows.specs.Seen.{row_seen};
 ghost use Rattle.aud_rows.specs.StayRows.{stays_at};
 ghost use Rattle.aud_session_facts.specs.FramePlaces.{frame_at};
-ghost use Rattle.aud_causes.specs.Records.{client_row, line_at, line_of, lines_at, node_row_of, place_of};
+ghost use Rattle.aud_causes.specs.Records.{client_row, line_at, lines_at, node_row_of, place_of};
 
+use crate::list::push_some;
 use crate::record_at::RecordAt;
-use aud_client::{IndexedTranscript, Recording, Stay};
+use aud_client::Recording;
 use aud_rows::{ClientPlaces, Role, Row, Sheet};
 use aud_session_facts::{FramePlace, frame_at};
 use std::alloc::{AllocError, Global};
@@ -29,22 +30,13 @@ pub(crate) fn lines_at(
 {
     let mut found = Vec::new(alloc);
     for record in records {
-        push_line(&mut found, line_at(sheet, tap, numbers, *record))?;
+        push_some(&mut found, line_at(sheet, tap, numbers, *record))?;
     }
     Ok(found)
 }
 
-fn push_line(found: &mut Vec<u64>, line: Option<u64>) -> Result<(), AllocError>
-    ensures { OnOk result (found.new.items ≡ found.old.items ++ option_to_list line) }
-{
-    if let Some(line) = line {
-        found.push(line)?;
-    }
-    Ok(())
-}
-
-/// The line of this record, if there is one and its line is known. Those of clients are looked for in this tap, where these are the numbers of
-/// the session's stays.
+/// The line of this record, if there is one and its line is known. Those of clients are looked for in this tap, where
+/// these are the numbers of the session's stays.
 fn line_at(
     sheet: &Sheet<'_, '_>,
     tap: Option<&ClientPlaces>,
@@ -57,15 +49,9 @@ fn line_at(
 {
     let at = at?;
     match tap {
-        Some(tap) => line_of(client_row(sheet, tap, numbers, at)),
-        None => line_of(node_row_of(sheet, at)),
+        Some(tap) => Some(client_row(sheet, tap, numbers, at)?.line),
+        None => Some(node_row_of(sheet, at)?.line),
     }
-}
-
-fn line_of(row: Option<Row<'_>>) -> Option<u64>
-    ensures { result ≡ line_of (option_map row_seen row.entry) }
-{
-    Some(row?.line)
 }
 
 /// The row of a node's record.
@@ -113,12 +99,5 @@ pub(crate) fn frame_in(
     ensures { result ≡ frame_at (stays_at recording.now client) numbers.now frame }
 {
     let client = recording.client(client)?;
-    frame_at(stays_of(client), numbers, frame)
-}
-
-/// The stays of a client's tap.
-pub(crate) fn stays_of<'s, 'a>(client: &'s IndexedTranscript<'a>) -> &'s [Stay<'a>]
-    ensures { result.now ≡ client.now.stays }
-{
-    client.transcript().stays.as_slice()
+    frame_at(&client.transcript().stays, numbers, frame)
 }

@@ -5,12 +5,12 @@ ghost use Rattle.aud_causes.specs.Delivery.{held};
 use crate::cause::Cause;
 use std::alloc::{AllocError, Global};
 
-/// Adds the cause, if it holds.
-pub(crate) fn push_cause(found: &mut Vec<Cause>, cause: Option<Cause>) -> Result<(), AllocError>
-    ensures { OnOk result (found.new.items ≡ found.old.items ++ option_to_list cause) }
+/// Adds the item, if there is one.
+pub(crate) fn push_some<T: Drop>(found: &mut Vec<T>, item: Option<T>) -> Result<(), AllocError>
+    ensures { OnOk result (found.new.items ≡ found.old.items ++ option_to_list item) }
 {
-    if let Some(cause) = cause {
-        found.push(cause)?;
+    if let Some(item) = item {
+        found.push(item)?;
     }
     Ok(())
 }
@@ -21,7 +21,7 @@ pub(crate) fn held(alloc: Global, causes: &[Option<Cause>]) -> Result<Vec<Cause>
 {
     let mut found = Vec::new(alloc);
     for cause in causes {
-        push_cause(&mut found, *cause)?;
+        push_some(&mut found, *cause)?;
     }
     Ok(found)
 }

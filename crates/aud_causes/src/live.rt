@@ -1,6 +1,6 @@
 //! Causes that go by the facts of a difference alone.
 ghost use Rattle.std.specs.Prelude.{◌≡◌};
-ghost use Rattle.aud_causes.specs.Delivery.{doubled_in_replay, doubled_live, is_in_replay, is_live, is_outside, is_replayed, is_taken_live, lost_live, replay_includes_offset, sent_again, skipped_in_window, stale_offset, swapped_in_replay, swapped_live};
+ghost use Rattle.aud_causes.specs.Delivery.{is_in_replay, is_live, is_outside, is_replayed, is_taken_live, replay_includes_offset, sent_again, skipped_in_window, stale_offset};
 
 use crate::cause::Cause;
 use crate::facts::{Facts, Replay};
@@ -30,38 +30,14 @@ pub(crate) fn is_outside(facts: Facts) -> bool
 }
 
 /// Whether the two frames stand in one stay, and the entry came in no replay.
-fn is_live(facts: Facts) -> bool
+pub(crate) fn is_live(facts: Facts) -> bool
     ensures { result ≡ is_live facts }
 {
     facts.earlier == facts.later && is_outside(facts)
 }
 
-pub(crate) fn doubled_live(facts: Facts) -> Option<Cause>
-    ensures { result ≡ doubled_live facts }
-{
-    if !is_live(facts) {
-        return None;
-    }
-    Some(Cause::DoubledLive {
-        first: facts.parted.first,
-        again: facts.parted.again,
-    })
-}
-
-pub(crate) fn swapped_live(facts: Facts) -> Option<Cause>
-    ensures { result ≡ swapped_live facts }
-{
-    if !is_live(facts) {
-        return None;
-    }
-    Some(Cause::SwappedLive {
-        first: facts.parted.first,
-        again: facts.parted.again,
-    })
-}
-
 /// Whether both frames stand in one recovery, in which the entry was to be sent again.
-fn is_in_replay(facts: Facts) -> bool
+pub(crate) fn is_in_replay(facts: Facts) -> bool
     ensures { result ≡ is_in_replay facts }
 {
     if facts.earlier != facts.later {
@@ -71,30 +47,6 @@ fn is_in_replay(facts: Facts) -> bool
         Some(replay) => is_replayed(replay, facts.parted.position),
         None => false,
     }
-}
-
-pub(crate) fn doubled_in_replay(facts: Facts) -> Option<Cause>
-    ensures { result ≡ doubled_in_replay facts }
-{
-    if !is_in_replay(facts) {
-        return None;
-    }
-    Some(Cause::DoubledInReplay {
-        first: facts.parted.first,
-        again: facts.parted.again,
-    })
-}
-
-pub(crate) fn swapped_in_replay(facts: Facts) -> Option<Cause>
-    ensures { result ≡ swapped_in_replay facts }
-{
-    if !is_in_replay(facts) {
-        return None;
-    }
-    Some(Cause::SwappedInReplay {
-        first: facts.parted.first,
-        again: facts.parted.again,
-    })
 }
 
 /// Whether the stays match the turns, and the node took the entry after it took the session back, if it did so.
@@ -111,17 +63,6 @@ pub(crate) fn is_taken_live(facts: Facts) -> bool
         Some(replay) => replay.low < facts.parted.position,
         None => false,
     }
-}
-
-pub(crate) fn lost_live(facts: Facts) -> Option<Cause>
-    ensures { result ≡ lost_live facts }
-{
-    if !is_taken_live(facts) {
-        return None;
-    }
-    Some(Cause::LostLive {
-        frame: facts.parted.again,
-    })
 }
 
 /// Where this is the first position past the cursor of the turn that came in the stay.

@@ -1,15 +1,15 @@
 //! What a fault of the nodes' logs may come from.
-ghost use Rattle.std.specs.Prelude.{◌≡◌, ◌<◌, ◌++◌, ◌∷◌, [], IfOk, OnOk, if◌then◌else◌, length, map, suc};
+ghost use Rattle.std.specs.Prelude.{◌≡◌, ◌<◌, IfOk, length, map, suc};
 ghost use Rattle.aud_node.specs.Cursors.{cursor_at};
-ghost use Rattle.aud_node.specs.Stream.{position};
-ghost use Rattle.aud_causes.specs.Logs.{first_cause, later_cause, not_the_next, order_cause, recoveries, take_cause, taken_again, takes_cause};
+ghost use Rattle.aud_causes.specs.Logs.{first_cause, later_cause, not_the_next, order_cause, recoveries, taken_again};
 
 use crate::cause::Cause;
 use crate::facts::is_recovery;
+use crate::list::push_some;
 use aud_client::Stay;
 use aud_node::{Logs, NodeLog, Stream};
 use aud_session_facts::RecordPlace;
-use aud_tap::{NodeRec, Text};
+use aud_tap::NodeRec;
 use std::alloc::{AllocError, Global};
 
 /// The numbers of the stays by which the client came back: the recoveries follow the turns in their order.
@@ -18,20 +18,9 @@ pub(crate) fn recoveries(alloc: Global, stays: &[&Stay<'_>]) -> Result<Vec<usize
 {
     let mut came = Vec::new(alloc);
     for number in 0..stays.len() {
-        push_if(&mut came, number, is_recovery(stays, number))?;
+        push_some(&mut came, is_recovery(stays, number).then_some(number))?;
     }
     Ok(came)
-}
-
-/// Adds the number, where this holds.
-fn push_if(came: &mut Vec<usize>, number: usize, holds: bool) -> Result<(), AllocError>
-    ensures { OnOk result (came.new.items ≡ (if holds
-        then came.old.items ++ number ∷ [] else came.old.items)) }
-{
-    if holds {
-        came.push(number)?;
-    }
-    Ok(())
 }
 
 /// The cause for which this record of a node is out of order.
@@ -72,7 +61,7 @@ fn first_cause(stream: &Stream<'_>, place: RecordPlace, rec: &NodeRec) -> Option
     let NodeRec::Start { off } = rec else {
         return Some(Cause::NoStart { first: place });
     };
-    match position_of(stream, off.as_ref()?) {
+    match stream.position(off.as_ref()?.as_str()) {
         Some(_) => None,
         None => Some(Cause::NotInStream { taken: place }),
     }
@@ -84,35 +73,15 @@ fn later_cause(stream: &Stream<'_>, place: RecordPlace, cursor: u64, rec: &NodeR
 {
     match rec {
         NodeRec::Start { .. } => Some(Cause::RestartedInOldLog { start: place }),
-        NodeRec::Take { off } => take_cause(place, cursor, position_of(stream, off)),
-        NodeRec::Takes { off } => takes_cause(place, cursor, position_of(stream, off)),
+        NodeRec::Take { off } => match stream.position(off.as_str()) {
+            Some(position) => not_the_next(place, cursor, position),
+            None => Some(Cause::NotInStream { taken: place }),
+        },
+        NodeRec::Takes { off } => match stream.position(off.as_str()) {
+            Some(position) => taken_again(place, cursor, position),
+            None => Some(Cause::NotInStream { taken: place }),
+        },
         _ => None,
-    }
-}
-
-fn position_of(stream: &Stream<'_>, off: &Text) -> Option<u64>
-    ensures { result ≡ position stream.now off.now }
-{
-    stream.position(off.as_str())
-}
-
-/// Of a `take` of the entry at this position, if the stream has it.
-fn take_cause(place: RecordPlace, cursor: u64, position: Option<u64>) -> Option<Cause>
-    ensures { result ≡ take_cause place cursor position }
-{
-    match position {
-        Some(position) => not_the_next(place, cursor, position),
-        None => Some(Cause::NotInStream { taken: place }),
-    }
-}
-
-/// Of a `takes`, which is of all entries up to the one at this position.
-fn takes_cause(place: RecordPlace, cursor: u64, position: Option<u64>) -> Option<Cause>
-    ensures { result ≡ takes_cause place cursor position }
-{
-    match position {
-        Some(position) => taken_again(place, cursor, position),
-        None => Some(Cause::NotInStream { taken: place }),
     }
 }
 

@@ -1,5 +1,5 @@
 //! Entries that the stream doesn't have, and that a node's log names.
-ghost use Rattle.std.specs.Prelude.{◌≡◌, ◌||◌};
+ghost use Rattle.std.specs.Prelude.{◌≡◌};
 ghost use Rattle.std.specs.Option.{option_copied};
 ghost use Rattle.aud_causes.specs.NamedEntries.{is_in_log, is_named, is_named_at, names_entry};
 
@@ -13,7 +13,7 @@ pub(crate) fn is_named(logs: &Logs<'_>, off: &str) -> bool
 {
     let mut named = false;
     for place in 0..logs.taps().len() {
-        named = is_either(named, is_named_at(logs, off, place));
+        named |= is_named_at(logs, off, place);
     }
     named
 }
@@ -35,7 +35,7 @@ fn is_in_log(log: &NodeLog<'_>, off: &str) -> bool
     let recs = log.recs();
     let mut named = false;
     for number in 0..recs.len() {
-        named = is_either(named, names_entry(recs.get(number), off));
+        named |= names_entry(recs.get(number), off);
     }
     named
 }
@@ -50,11 +50,4 @@ fn names_entry(rec: Option<&NodeRec>, off: &str) -> bool
         Some(NodeRec::Takes { off: taken }) => off == taken.as_str(),
         _ => false,
     }
-}
-
-/// Whether one of both holds.
-fn is_either(one: bool, other: bool) -> bool
-    ensures { result ≡ (one || other) }
-{
-    one || other
 }

@@ -3,7 +3,7 @@ ghost use Rattle.std.specs.Prelude.{◌≡◌, IfOk, length, map};
 ghost use Rattle.aud_check.specs.NamedStays.{has_sid};
 ghost use Rattle.aud_client.specs.Received.{transcript_at};
 ghost use Rattle.aud_client.specs.Replies.{naming_places};
-ghost use Rattle.aud_causes.specs.Names.{client_causes, has_unanswered, has_unnamed, is_unanswered, named_causes, namespace_differs, other_namespace, other_sid, reply_missing, sid_differs, unnamed_causes, unnamed_from};
+ghost use Rattle.aud_causes.specs.Names.{client_causes, has_unanswered, has_unnamed, is_unanswered, named_causes, namespace_differs, reply_missing, sid_differs, unnamed_causes, unnamed_from};
 
 use crate::bare::tap_without_packets;
 use crate::cause::Cause;
@@ -125,37 +125,21 @@ pub(crate) fn named_causes(
 fn sid_differs(stays: &[&Stay<'_>], sid: &str) -> Option<Cause>
     ensures { result ≡ sid_differs sid.now (map (λ stay. stay.now) stays.now) }
 {
-    let stay = other_sid(stays, sid)?;
-    Some(Cause::SidDiffers { stay })
+    for (stay, named) in stays.iter().enumerate() {
+        if !has_sid(&named.reply, sid) {
+            return Some(Cause::SidDiffers { stay });
+        }
+    }
+    None
 }
 
 /// Where a reply is of another namespace: the first such one.
 fn namespace_differs(stays: &[&Stay<'_>], nsp: &str) -> Option<Cause>
     ensures { result ≡ namespace_differs nsp.now (map (λ stay. stay.now) stays.now) }
 {
-    let stay = other_namespace(stays, nsp)?;
-    Some(Cause::NamespaceDiffers { stay })
-}
-
-/// The number of the first of the stays whose reply has another sid.
-fn other_sid(stays: &[&Stay<'_>], sid: &str) -> Option<usize>
-    ensures { result ≡ other_sid sid.now 0 (map (λ stay. stay.now) stays.now) }
-{
-    for (number, stay) in stays.iter().enumerate() {
-        if !has_sid(&stay.reply, sid) {
-            return Some(number);
-        }
-    }
-    None
-}
-
-/// The number of the first of the stays that is of another namespace.
-fn other_namespace(stays: &[&Stay<'_>], nsp: &str) -> Option<usize>
-    ensures { result ≡ other_namespace nsp.now 0 (map (λ stay. stay.now) stays.now) }
-{
-    for (number, stay) in stays.iter().enumerate() {
-        if stay.nsp != nsp {
-            return Some(number);
+    for (stay, named) in stays.iter().enumerate() {
+        if named.nsp != nsp {
+            return Some(Cause::NamespaceDiffers { stay });
         }
     }
     None

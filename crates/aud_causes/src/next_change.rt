@@ -1,11 +1,10 @@
 //! The next record by which a session changes a room, past a position.
 ghost use Rattle.std.specs.Prelude.{◌≡◌};
 ghost use Rattle.std.specs.Option.{option_copied};
-ghost use Rattle.aud_causes.specs.NextChange.{change_past, is_change, next_change, next_change_at, next_change_in, reached_past};
+ghost use Rattle.aud_causes.specs.NextChange.{change_past, is_change, next_change, next_change_at};
 
 use aud_cert::{Turn, turn_place};
 use aud_node::Logs;
-use aud_rooms::TurnPlace;
 use aud_tap::NodeRec;
 
 /// The last position that the session of these turns had reached when it next joined or left the room, from the
@@ -23,28 +22,14 @@ pub(crate) fn next_change(
     let mut high = 0;
     for turn in turns {
         let place = turn_place(logs, turn);
-        next = next.or(next_change_in(logs, pid, room, position, high, &place));
+        let numbers = place.own(logs, pid);
+        next = next.or(next_change_at(logs, place.node, pid, room, position, high, numbers));
         high = turn.high.max(high);
     }
     next
 }
 
-/// The same by the session's own records in the turn, where it had reached this position in those before.
-fn next_change_in(
-    logs: &Logs<'_>,
-    pid: &str,
-    room: &str,
-    position: u64,
-    high: u64,
-    turn: &TurnPlace,
-) -> Option<u64>
-    ensures { result ≡ next_change_in logs.now pid.now room.now position high turn.now }
-{
-    let numbers = turn.own(logs, pid);
-    next_change_at(logs, turn.node, pid, room, position, high, numbers)
-}
-
-/// The same by the node's records with these numbers.
+/// The same by the node's records with these numbers, where the session had reached the one position in the turns before.
 fn next_change_at(
     logs: &Logs<'_>,
     node: usize,
@@ -80,14 +65,7 @@ fn change_past(
     if !is_change(pid, room, log.recs().get(number)) {
         return None;
     }
-    let cursor = log.cursor_after(number)?;
-    reached_past(position, cursor.max(high))
-}
-
-/// What was reached, if that is the position or past it.
-fn reached_past(position: u64, reached: u64) -> Option<u64>
-    ensures { result ≡ reached_past position reached }
-{
+    let reached = log.cursor_after(number)?.max(high);
     if reached < position {
         return None;
     }
@@ -103,10 +81,8 @@ fn is_change(pid: &str, room: &str, rec: Option<&NodeRec>) -> bool
             NodeRec::Join {
                 pid: other,
                 room: name,
-            },
-        ) => other.as_str() == pid && name.as_str() == room,
-        Some(
-            NodeRec::Leave {
+            }
+            | NodeRec::Leave {
                 pid: other,
                 room: name,
             },

@@ -1,15 +1,14 @@
 //! What events may come from of which nobody knows the session.
-ghost use Rattle.std.specs.Prelude.{◌≡◌, ◌++◌, IfOk, None, OnOk, codes, nat_eq, slice_get};
-ghost use Rattle.std.specs.List.{starts_with};
+ghost use Rattle.std.specs.Prelude.{◌≡◌, ◌++◌, IfOk, None, OnOk, slice_get};
 ghost use Rattle.std.specs.Option.{option_copied};
 ghost use Rattle.aud_session_facts.specs.Recoveries.{stays_at};
-ghost use Rattle.aud_causes.specs.Orphans.{answered_causes, began_late, begins, causes_of_before, ends_connection, first_of_stay, is_asked_first, is_beside, is_cut, is_disconnect, last_beside, last_of_stay, may_be_cut, next_of_stay, orphan_causes, out_after_answer, replied_causes, reply_lost, stay_before, unreplied_causes, without_reply};
+ghost use Rattle.aud_causes.specs.Orphans.{answered_causes, began_late, begins, causes_of_before, is_asked_first, is_beside, is_disconnect, last_beside, last_of_stay, may_be_cut, next_of_stay, orphan_causes, replied_causes, reply_lost, stay_before, unreplied_causes, without_reply};
 
 use crate::bodies::{client_record, places_at};
 use crate::cause::Cause;
-use crate::list::{front_of, held, push_cause};
+use crate::list::{front_of, held, push_some};
 use aud_client::{Recording, Stay};
-use aud_tap::{ClientRec, Text};
+use aud_tap::ClientRec;
 use std::alloc::{AllocError, Global};
 
 /// The causes of events in the stay with this number of the client's tap at this place, whose reply names nobody. It
@@ -113,10 +112,13 @@ fn without_reply(
 fn reply_lost(client: usize, stay: &Stay<'_>, next: Option<&ClientRec>) -> Option<Cause>
     ensures { result ≡ reply_lost client stay.now.asked (option_copied next.entry) }
 {
-    if stay.asked.is_none() || is_cut(next) {
+    if stay.asked.is_none() {
         return None;
     }
-    Some(Cause::ReplyMissing { client })
+    match next {
+        Some(ClientRec::Lost | ClientRec::Conn { .. }) => None,
+        _ => Some(Cause::ReplyMissing { client }),
+    }
 }
 
 /// The record after the last one of the stay with this number of the client's tap at this place.
@@ -131,31 +133,11 @@ fn next_of_stay<'a>(
     client_record(recording, client, places.last as usize + 1)
 }
 
-/// Whether the connection is over by the record, if there is one.
-fn is_cut(next: Option<&ClientRec>) -> bool
-    ensures { result ≡ is_cut (option_copied next.entry) }
-{
-    match next {
-        Some(rec) => ends_connection(rec),
-        None => false,
-    }
-}
-
-/// Whether it is, or the tap ends there.
+/// Whether the connection is lost at the record, or another one begins; or the tap ends there.
 fn may_be_cut(next: Option<&ClientRec>) -> bool
     ensures { result ≡ may_be_cut (option_copied next.entry) }
 {
-    match next {
-        Some(rec) => ends_connection(rec),
-        None => true,
-    }
-}
-
-/// Whether the connection is lost at the record, or another one begins.
-fn ends_connection(rec: &ClientRec) -> bool
-    ensures { result ≡ ends_connection rec.now }
-{
-    matches!(rec, ClientRec::Lost | ClientRec::Conn { .. })
+    matches!(next, None | Some(ClientRec::Lost | ClientRec::Conn { .. }))
 }
 
 /// Whether nothing says that the tap has the connection from its beginning: the stay is the tap's first one, in its
@@ -183,22 +165,13 @@ fn begins(conn: u64, rec: Option<&ClientRec>) -> bool
 fn is_asked_first(recording: &Recording<'_>, client: usize, number: usize) -> bool
     ensures { result ≡ is_asked_first recording.now client number }
 {
-    match first_of_stay(recording, client, number) {
+    let Some(places) = places_at(recording, client).get(number) else {
+        return false;
+    };
+    match client_record(recording, client, places.first as usize) {
         Some(ClientRec::TextOut { .. }) => true,
         _ => false,
     }
-}
-
-/// The first record of the stay with this number of the client's tap at this place.
-fn first_of_stay<'a>(
-    recording: &Recording<'a>,
-    client: usize,
-    number: usize,
-) -> Option<&'a ClientRec>
-    ensures { option_copied result ≡ first_of_stay recording.now client number }
-{
-    let places = places_at(recording, client).get(number)?;
-    client_record(recording, client, places.first as usize)
 }
 
 /// The number of the last stay before it in its connection and namespace.
@@ -254,7 +227,7 @@ fn push_before(
             before,
             stay: number,
         };
-        return push_cause(found, Some(cause));
+        return push_some(found, Some(cause));
     }
     match stay_in(recording, client, before) {
         Some(stay) => {
@@ -282,16 +255,11 @@ pub(crate) fn is_disconnect(rec: Option<&ClientRec>) -> bool
     ensures { result ≡ is_disconnect (option_copied rec.entry) }
 {
     match rec {
-        Some(ClientRec::TextIn { t }) => says_disconnect(t),
-        Some(ClientRec::TextOut { t }) => says_disconnect(t),
+        Some(ClientRec::TextIn { t } | ClientRec::TextOut { t }) => {
+            t.as_str().as_bytes().starts_with(b"41")
+        }
         _ => false,
     }
-}
-
-fn says_disconnect(text: &Text) -> bool
-    ensures { result ≡ starts_with nat_eq text.now (codes "41") }
-{
-    text.as_str().as_bytes().starts_with(b"41")
 }
 
 /// Adds the causes where this is the stay before, if it was answered. The flag says whether it begins with the
@@ -309,28 +277,15 @@ fn push_answered(
     if stay.reply.is_none() {
         return Ok(());
     }
-    push_cause(found, out_after_answer(number, before, stay, asked_first))?;
+    let late = stay.asked.is_none() && !asked_first;
+    let out = Cause::OutAfterAnswer {
+        before,
+        stay: number,
+    };
+    push_some(found, late.then_some(out))?;
     let second = Cause::SecondConnect {
         before,
         stay: number,
     };
-    push_cause(found, Some(second))
-}
-
-/// Where in the stay before no session was asked for, and it doesn't begin with the client's CONNECT.
-fn out_after_answer(
-    number: usize,
-    before: usize,
-    stay: &Stay<'_>,
-    asked_first: bool,
-) -> Option<Cause>
-    ensures { result ≡ out_after_answer number before stay.now asked_first }
-{
-    if stay.asked.is_some() || asked_first {
-        return None;
-    }
-    Some(Cause::OutAfterAnswer {
-        before,
-        stay: number,
-    })
+    push_some(found, Some(second))
 }

@@ -2,10 +2,10 @@
 ghost use Rattle.std.specs.Prelude.{◌≡◌, IfOk, map};
 ghost use Rattle.std.specs.List.{list_any};
 ghost use Rattle.std.specs.Option.{option_copied};
-ghost use Rattle.aud_causes.specs.Recorded.{AreRecordedCauses, causes_of_turns, first_on, first_own, has_first_turn, is_node, is_of_first_turn, no_log_causes, open_missing, open_not_recorded, opener_not_tapped, order_causes, stays_of_client};
+ghost use Rattle.aud_causes.specs.Recorded.{AreRecordedCauses, causes_of_turns, first_on, first_own, has_first_turn, is_node, is_of_first_turn, no_log_causes, open_not_recorded, opener_not_tapped, order_causes, stays_of_client};
 
 use crate::cause::Cause;
-use crate::list::{held, push_cause};
+use crate::list::{held, push_some};
 use crate::logs::order_cause;
 use crate::names::client_causes;
 use crate::turns::chain_causes;
@@ -53,7 +53,8 @@ fn open_not_recorded(logs: &Logs<'_>, first: Option<RecordPlace>) -> Option<Caus
 {
     match first {
         Some(first) => Some(Cause::OpenNotRecorded { first: Some(first) }),
-        None => open_missing(logs),
+        None if has_node(logs.taps()) => Some(Cause::OpenNotRecorded { first: None }),
+        None => None,
     }
 }
 
@@ -98,30 +99,12 @@ fn is_of_first_turn(rec: Option<&NodeRec>) -> bool
     }
 }
 
-/// Where a node is tapped.
-fn open_missing(logs: &Logs<'_>) -> Option<Cause>
-    ensures { result ≡ open_missing logs.now }
-{
-    if !has_node(logs.taps()) {
-        return None;
-    }
-    Some(Cause::OpenNotRecorded { first: None })
-}
-
 /// Whether one of the taps is a node's.
 fn has_node(taps: &[Tap]) -> bool
     ensures { result ≡ list_any is_node taps.now }
 {
-    taps.iter().any(|tap| is_node(tap))
-}
-
-fn is_node(tap: &Tap) -> bool
-    ensures { result ≡ is_node tap.now }
-{
-    match tap.records {
-        Records::Node(_) => true,
-        _ => false,
-    }
+    taps.iter()
+        .any(|tap| matches!(tap.records, Records::Node(_)))
 }
 
 /// The session's first record on the first node that has any.
@@ -178,7 +161,7 @@ fn order_causes(
 {
     let mut found = Vec::new(alloc);
     for place in unordered {
-        push_cause(&mut found, order_cause(logs, *place))?;
+        push_some(&mut found, order_cause(logs, *place))?;
     }
     Ok(found)
 }

@@ -4,7 +4,7 @@ ghost use Rattle.aud_node.specs.Stream.{position};
 ghost use Rattle.aud_session_facts.specs.Recoveries.{stays_at};
 ghost use Rattle.aud_rows.specs.ClientPlaces.{AreOf};
 ghost use Rattle.aud_causes.specs.Found.{cause_seen, shown_causes};
-ghost use Rattle.aud_causes.specs.Refusals.{asked_causes, asked_too_early, broke_past, cursor_there, first_open, got_of, last_break, last_record, never_broken, node_ended, offset_cause, refusal_causes, refused_causes, session_over, stay_causes, unknown_offset};
+ghost use Rattle.aud_causes.specs.Refusals.{asked_causes, asked_too_early, cursor_there, first_open, got_of, last_break, never_broken, node_ended, offset_cause, refusal_causes, refused_causes, session_over, stay_causes, unknown_offset};
 ghost use Rattle.aud_causes.specs.TakenBack.{marks_before};
 
 use crate::cause::Cause;
@@ -191,20 +191,12 @@ fn node_ended(logs: &Logs<'_>, marks: &[TurnMark]) -> Option<Cause>
     if is_ended(marks, begin) {
         return None;
     }
-    Some(Cause::NodeEndedInTurn {
-        last: last_record(logs, begin.node)?,
-    })
-}
-
-/// The last record in the log of the node at this place.
-fn last_record(logs: &Logs<'_>, node: usize) -> Option<RecordPlace>
-    ensures { result ≡ last_record logs.now node }
-{
-    let log = logs.node(node)?;
-    Some(RecordPlace {
-        node,
+    let log = logs.node(begin.node)?;
+    let last = RecordPlace {
+        node: begin.node,
         number: log.recs().len().saturating_sub(1),
-    })
+    };
+    Some(Cause::NodeEndedInTurn { last })
 }
 
 /// Where no node recorded a break of the session's last turn, nor its end.
@@ -252,13 +244,8 @@ fn last_break(marks: &[TurnMark]) -> Option<RecordPlace>
 fn asked_too_early(logs: &Logs<'_>, marks: &[TurnMark], opening: &[TurnMark]) -> Option<Cause>
     ensures { result ≡ asked_too_early logs.now marks.now opening.now }
 {
-    broke_past(logs, last_break(marks)?, first_open(opening)?)
-}
-
-/// The same of this break and this `open`.
-fn broke_past(logs: &Logs<'_>, broke: RecordPlace, begin: RecordPlace) -> Option<Cause>
-    ensures { result ≡ broke_past logs.now broke begin }
-{
+    let broke = last_break(marks)?;
+    let begin = first_open(opening)?;
     let high = cursor_there(logs, broke)?;
     let low = cursor_there(logs, begin)?;
     if high <= low {

@@ -62,10 +62,5 @@ fn asks_for(stay: &Stay<'_>, pid: &str) -> bool
 fn is_named(stays: &[Stay<'_>], pid: &str) -> bool
     ensures { result ≡ list_any (stay_names_pid pid.now) stays.now }
 {
-    for stay in stays {
-        if stay.names(pid) {
-            return true;
-        }
-    }
-    false
+    stays.iter().any(|stay| stay.names(pid))
 }

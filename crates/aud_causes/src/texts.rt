@@ -1,15 +1,14 @@
 //! Both texts of an event that isn't its entry, in the sentence of its cause.
 ghost use Rattle.std.specs.Prelude.{◌≡◌, ◌++◌, OnOk, string_bytes};
 ghost use Rattle.std.specs.Option.{option_and_then, option_copied};
-ghost use Rattle.aud_causes.specs.Texts.{apart_in, both_texts, frame_of, frame_there, texts_of, texts_told};
+ghost use Rattle.aud_causes.specs.Texts.{apart_in, both_texts, frame_of, texts_of, texts_told};
 
 use crate::cause::Cause;
 use crate::excerpt::push_excerpt;
-use crate::lines::{frame_in, stays_of};
+use crate::lines::frame_in;
 use aud_check::Part;
-use aud_client::{Frame, Recording, Stay};
+use aud_client::{Frame, Recording};
 use aud_node::Stream;
-use aud_session_facts::FramePlace;
 use aud_tap::StreamRec;
 use std::alloc::AllocError;
 
@@ -68,13 +67,7 @@ pub(crate) fn frame_of<'r, 'a>(
 {
     let client = client?;
     let place = frame_in(recording, client, numbers, frame)?;
-    frame_there(stays_of(recording.client(client)?), place)
-}
-
-/// The frame at this place, if there is one.
-fn frame_there<'r, 'a>(stays: &'r [Stay<'a>], place: FramePlace) -> Option<&'r Frame<'a>>
-    ensures { option_copied result ≡ frame_there stays.now place }
-{
+    let stays = &recording.client(client)?.transcript().stays;
     stays.get(place.stay)?.frames.get(place.frame)
 }
 

@@ -1,14 +1,14 @@
 //! What a break in the chain of a session's turns may come from.
-ghost use Rattle.std.specs.Prelude.{◌≡◌, ◌++◌, ◌<◌, IfOk, OnOk, Some, length, map};
+ghost use Rattle.std.specs.Prelude.{◌≡◌, ◌++◌, ◌<◌, IfOk, OnOk, length, map};
 ghost use Rattle.std.specs.Option.{option_copied};
 ghost use Rattle.aud_causes.specs.Chain.{causes_of_marks, chain_causes};
-ghost use Rattle.aud_causes.specs.Private.Noting.{break_in, with_begin, with_break};
-ghost use Rattle.aud_causes.specs.Turns.{after_begin, begins_of, begun_turn, breaks_of, broken_turn, count_with, ended_by, ended_turn, ends_of, is_after_begin, is_past_turn, is_untapped, missing_back, missing_break, missing_breaks, missing_causes, not_tapped, recovery_after, turn_count, unbegun, unbroken_at};
+ghost use Rattle.aud_causes.specs.Private.Noting.{break_in, with_begin};
+ghost use Rattle.aud_causes.specs.Turns.{after_begin, begins_of, begun_turn, breaks_of, broken_turn, count_with, ended_by, ends_of, is_after_begin, is_untapped, missing_back, missing_break, missing_breaks, missing_causes, not_tapped, recovery_after, turn_count, unbegun, unbroken_at};
 
 use crate::cause::Cause;
 use crate::cleared::push_cleared;
 use crate::last_turn::{is_broken, is_end, is_turn};
-use crate::list::push_cause;
+use crate::list::push_some;
 use crate::logs::recoveries;
 use crate::twice::{is_as_often, opened_twice, push_twice};
 use aud_client::Stay;
@@ -59,7 +59,7 @@ fn causes_of_marks(
     let mut found = missing_causes(alloc, marks, begins, ended, came)?;
     push_cleared(logs, pid, &mut found)?;
     push_twice(&mut found, begins, ended, is_as_often(marks, came), marks)?;
-    push_cause(&mut found, opened_twice(marks))?;
+    push_some(&mut found, opened_twice(marks))?;
     Ok(found)
 }
 
@@ -77,8 +77,8 @@ fn missing_causes(
 {
     let broken = breaks_of(alloc, marks)?;
     let mut found = Vec::new(alloc);
-    push_cause(&mut found, not_tapped(begins, &broken))?;
-    push_cause(&mut found, missing_back(marks, begins))?;
+    push_some(&mut found, not_tapped(begins, &broken))?;
+    push_some(&mut found, missing_back(marks, begins))?;
     push_missing(&mut found, begins, &broken, ended, came)?;
     Ok(found)
 }
@@ -156,16 +156,9 @@ fn breaks_of(alloc: Global, marks: &[TurnMark]) -> Result<Vec<bool>, AllocError>
 {
     let mut broken = vec![in alloc; false; turn_count(marks)]?;
     for mark in marks {
-        note_break(&mut broken, *mark);
+        note_turn(&mut broken, broken_turn(mark.mark));
     }
     Ok(broken)
-}
-
-/// Notes the record, if it breaks a turn.
-fn note_break(broken: &mut Vec<bool>, mark: TurnMark)
-    ensures { broken.new.items ≡ with_break mark broken.old.items }
-{
-    note_turn(broken, broken_turn(mark.mark))
 }
 
 /// Notes that this holds of the turn, if it is one of these.
@@ -198,21 +191,11 @@ fn ended_by(marks: &[TurnMark], number: usize) -> Option<u16>
     ensures { result ≡ ended_by marks.now number }
 {
     match (marks.get(number), marks.get(number + 1)) {
-        (Some(begin), Some(next)) => ended_turn(*begin, *next),
+        (Some(begin), Some(next)) if next.place.node == begin.place.node && is_end(next.mark) => {
+            begun_turn(begin.mark)
+        }
         _ => None,
     }
-}
-
-fn ended_turn(begin: TurnMark, next: TurnMark) -> Option<u16>
-    ensures { result ≡ ended_turn (Some begin) (Some next) }
-{
-    if next.place.node != begin.place.node {
-        return None;
-    }
-    if !is_end(next.mark) {
-        return None;
-    }
-    begun_turn(begin.mark)
 }
 
 /// That no log has the begin of a turn, nor its `break`, where these are the begins, and whether each is broken.
@@ -265,30 +248,19 @@ fn unbegun(begins: &[Option<RecordPlace>]) -> usize
 fn after_begin(marks: &[TurnMark], turn: usize, broken: bool) -> Option<RecordPlace>
     ensures { result ≡ after_begin turn broken marks.now }
 {
-    for mark in marks {
-        if is_after_begin(turn, broken, mark.mark) {
-            return Some(mark.place);
-        }
-    }
-    None
+    let mark = marks
+        .iter()
+        .find(|mark| is_after_begin(turn, broken, mark.mark))?;
+    Some(mark.place)
 }
 
 /// Whether the record begins a later turn, or breaks this one, where one breaks the turn before.
 fn is_after_begin(turn: usize, broken: bool, mark: Mark) -> bool
     ensures { result ≡ is_after_begin turn broken mark }
 {
-    if is_past_turn(turn, begun_turn(mark)) {
-        return true;
-    }
-    broken && is_turn(turn, broken_turn(mark))
-}
-
-fn is_past_turn(turn: usize, other: Option<u16>) -> bool
-    ensures { result ≡ is_past_turn turn other }
-{
-    match other {
-        Some(other) => turn < other as usize,
-        None => false,
+    match begun_turn(mark) {
+        Some(begun) if turn < begun as usize => true,
+        _ => broken && is_turn(turn, broken_turn(mark)),
     }
 }
 
@@ -304,7 +276,7 @@ fn push_missing(
         ≡ found.old.items ++ missing_breaks begins.now broken.now ended.now came.now) }
 {
     for turn in 0..begins.len() {
-        push_cause(found, missing_break(begins, broken, ended, came, turn))?;
+        push_some(found, missing_break(begins, broken, ended, came, turn))?;
     }
     Ok(())
 }

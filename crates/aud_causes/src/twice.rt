@@ -1,11 +1,10 @@
 //! A turn for which two records take the session back.
 ghost use Rattle.std.specs.Prelude.{◌≡◌, ◌++◌, OnOk, slice_get};
-ghost use Rattle.std.specs.Option.{option_copied};
-ghost use Rattle.aud_causes.specs.Twice.{back_turn, causes_of_twice, begun_twice, is_as_often, is_back, is_open, is_place, is_so, is_written_again, mark_before, open_with, opened_after, opened_twice, recovered_twice, turn_not_stored, twice_at, twice_by, twice_causes};
+ghost use Rattle.aud_causes.specs.Twice.{back_turn, causes_of_twice, begun_twice, is_as_often, is_written_again, mark_before, open_with, opened_after, opened_twice, turn_not_stored, twice_at, twice_by, twice_causes};
 
 use crate::cause::Cause;
 use crate::last_turn::is_turn;
-use crate::list::push_cause;
+use crate::list::push_some;
 use aud_session_facts::{Mark, RecordPlace, TurnMark};
 use std::alloc::AllocError;
 
@@ -40,13 +39,10 @@ pub(crate) fn push_twice(
 pub(crate) fn is_as_often(marks: &[TurnMark], came: &[usize]) -> bool
     ensures { result ≡ is_as_often marks.now came.now }
 {
-    marks.iter().filter(|mark| is_back(mark.mark)).count() <= came.len()
-}
-
-fn is_back(mark: Mark) -> bool
-    ensures { result ≡ is_back mark }
-{
-    matches!(mark, Mark::Back { .. })
+    let backs = marks
+        .iter()
+        .filter(|mark| matches!(mark.mark, Mark::Back { .. }));
+    backs.count() <= came.len()
 }
 
 /// The turn for which the record with this number takes the session back, where another one is its first begin.
@@ -101,7 +97,7 @@ fn begun_twice(begins: &[Option<RecordPlace>], turn: usize, again: RecordPlace) 
     let Some(Some(first)) = begins.get(turn) else {
         return None;
     };
-    if is_place(*first, again) {
+    if first.node == again.node && first.number == again.number {
         return None;
     }
     Some(Twice {
@@ -123,12 +119,6 @@ fn back_turn(mark: Mark) -> Option<u16>
     }
 }
 
-fn is_place(a: RecordPlace, b: RecordPlace) -> bool
-    ensures { result ≡ is_place a b }
-{
-    a.node == b.node && a.number == b.number
-}
-
 /// Adds the causes of such a turn, if there is one.
 fn push_causes(
     found: &mut Vec<Cause>,
@@ -142,42 +132,24 @@ fn push_causes(
     let Some(twice) = twice else {
         return Ok(());
     };
-    push_cause(found, turn_not_stored(ended, as_often, twice))?;
-    push_cause(found, recovered_twice(twice))
+    push_some(found, turn_not_stored(ended, as_often, twice))?;
+    let on_two_nodes = twice.first.node != twice.again.node;
+    let recovered = Cause::RecoveredTwice {
+        turn: twice.turn,
+        first: twice.first,
+        again: twice.again,
+    };
+    push_some(found, on_two_nodes.then_some(recovered))
 }
 
 /// Where the client came back for each `back`, or the log of a record that begins the turn ends it.
 fn turn_not_stored(ended: &[bool], as_often: bool, twice: Twice) -> Option<Cause>
     ensures { result ≡ turn_not_stored ended.now as_often twice }
 {
-    if !as_often && !is_so(ended.get(twice.turn)) {
+    if !as_often && !matches!(ended.get(twice.turn), Some(true)) {
         return None;
     }
     Some(Cause::TurnNotStored {
-        turn: twice.turn,
-        first: twice.first,
-        again: twice.again,
-    })
-}
-
-/// Whether it is known of the turn, and so.
-fn is_so(known: Option<&bool>) -> bool
-    ensures { result ≡ is_so (option_copied known.entry) }
-{
-    match known {
-        Some(holds) => *holds,
-        None => false,
-    }
-}
-
-/// Where they stand in the logs of two nodes.
-fn recovered_twice(twice: Twice) -> Option<Cause>
-    ensures { result ≡ recovered_twice twice }
-{
-    if twice.first.node == twice.again.node {
-        return None;
-    }
-    Some(Cause::RecoveredTwice {
         turn: twice.turn,
         first: twice.first,
         again: twice.again,
@@ -201,27 +173,21 @@ pub(crate) fn opened_twice(marks: &[TurnMark]) -> Option<Cause>
 fn opened_after(first: Option<RecordPlace>, mark: TurnMark) -> Option<Cause>
     ensures { result ≡ opened_after first mark }
 {
-    if !is_open(mark.mark) {
-        return None;
+    match mark.mark {
+        Mark::Open => Some(Cause::OpenedTwice {
+            first: first?,
+            again: mark.place,
+        }),
+        _ => None,
     }
-    Some(Cause::OpenedTwice {
-        first: first?,
-        again: mark.place,
-    })
 }
 
 /// The last record so far that opens the session, after this record too.
 fn open_with(first: Option<RecordPlace>, mark: TurnMark) -> Option<RecordPlace>
     ensures { result ≡ open_with first mark }
 {
-    if is_open(mark.mark) {
-        return Some(mark.place);
+    match mark.mark {
+        Mark::Open => Some(mark.place),
+        _ => first,
     }
-    first
-}
-
-fn is_open(mark: Mark) -> bool
-    ensures { result ≡ is_open mark }
-{
-    matches!(mark, Mark::Open)
 }

@@ -1,7 +1,7 @@
 //! What a recovery that was asked for where it does not fit may come from.
 ghost use Rattle.std.specs.Prelude.{◌≡◌, IfOk, map, slice_get};
 ghost use Rattle.std.specs.Option.{option_copied};
-ghost use Rattle.aud_causes.specs.Windows.{by_misfit, is_offset_named, offset_in, other_session_of, window_causes};
+ghost use Rattle.aud_causes.specs.Windows.{by_misfit, offset_in, other_session_of, window_causes};
 
 use crate::cause::Cause;
 use crate::delivery::offset_of_another;
@@ -58,23 +58,15 @@ fn by_misfit(
     let stay = window.stay;
     match window.why {
         Misfit::NoOffset => Some(Cause::NoOffset { stay }),
-        Misfit::Unknown if is_offset_named(logs, off) => None,
-        Misfit::Unknown => Some(Cause::UnknownOffset { stay }),
+        Misfit::Unknown => match off {
+            Some(off) if is_named(logs, off.as_str()) => None,
+            _ => Some(Cause::UnknownOffset { stay }),
+        },
         Misfit::Behind { .. } => Some(Cause::StaleOffset {
             stay,
             after: asked?,
         }),
         Misfit::NotBehind { .. } => None,
-    }
-}
-
-/// Whether a node's log names the entry of this offset.
-fn is_offset_named(logs: &Logs<'_>, off: Option<&Text>) -> bool
-    ensures { result ≡ is_offset_named logs.now (option_copied off.entry) }
-{
-    match off {
-        Some(off) => is_named(logs, off.as_str()),
-        None => false,
     }
 }
 

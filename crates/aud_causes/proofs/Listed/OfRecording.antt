@@ -22,7 +22,7 @@ use Rattle.aud_causes.specs.declared.cause.Cause.{Cause}
 use Rattle.aud_causes.specs.declared.cause.Cause.TheVariants.{ClientTapHasNoPackets, EntriesSkippedByNode, EntryTakenAgain, MissingBack, MissingBreak, NoClientTap, NodeNotTapped, OpenedTwice, OpenNotRecorded, RecoveredTwice, ReplyMissing, TurnNotStored}
 use Rattle.aud_causes.specs.declared.turns.Unbroken.{Unbroken}
 use Rattle.aud_causes.specs.declared.twice.Twice.{Twice}
-use Rattle.aud_causes.specs.Bare.{bare_from, first_bare, tap_without_packets}
+use Rattle.aud_causes.specs.Bare.{bare_place, first_bare, tap_without_packets}
 use Rattle.aud_causes.specs.Chain.{chain_causes}
 use Rattle.aud_causes.specs.Cleared.{broke_by, cleared_after_break, cleared_at, cleared_by, cleared_in, cleared_on, first_cleared, place_on}
 use Rattle.aud_causes.specs.Logs.{first_cause, later_cause, order_cause, record_cause, recoveries, take_cause, taken_again, takes_cause, unknown}
@@ -197,7 +197,7 @@ in_client = is_listed fault.Client
 without_listed : (c : Cluster) (pid : Text) → OfSome in_client (tap_without_packets c pid)
 without_listed c pid =
     of_choice in_client (nat_eq (turn_count 0 (turn_marks c pid)) 1) (first_bare c.taps) None
-    (of_map in_client ClientTapHasNoPackets (λ client. refl) (bare_from 0 c.taps)) tt
+    (of_map in_client ClientTapHasNoPackets (λ client. refl) (bare_place c.taps)) tt
 
 pub client_listed : (c : Cluster) (pid : Text) (count : ℕ) → list_all in_client (client_causes c pid count) ≡ true
 client_listed c pid zero =

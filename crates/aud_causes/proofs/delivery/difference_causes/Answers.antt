@@ -16,6 +16,6 @@ returns c =
     let facts_are = c.facts_of-facts.ensures ∙ (λ i. facts_of (stream_is i) (turns_are i) (map (λ stay. stay.now) (stays_are i)) c.args.difference) in
     let unrecorded_is = c.in_ok-unrecorded.ensures ∙ (λ i. recovery_not_recorded (turns_are i) (map (λ stay. stay.now) (stays_are i)) c.facts_of-facts.result) in
     λ made.
-    c.in_ok-push_cause.ensures
+    c.in_ok-push_some.ensures
     ∙ (λ i. c.in_ok-found.ensures made i ++ option_to_list (unrecorded_is i))
     ∙ (λ i. all_causes (case_of cluster a numbers made) c.args.difference (facts_are i))

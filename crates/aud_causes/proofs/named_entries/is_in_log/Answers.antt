@@ -9,7 +9,6 @@ pub loop-number-preserved : goal.loop-number-preserved
 loop-number-preserved c =
     let named = λ (number : ℕ). names_entry c.args.off.now (slice_get c.args.log.now.recs number) in
     let i = c.loop-number.number in
-    c.is_either-named.ensures
-    ∙ ap (λ b. b || c.names_entry.result) c.loop-number.invariant
-    ∙ ap (λ b. list_any named (numbers_from 0 i) || b) (c.names_entry.ensures ∙ ap (names_entry c.args.off.now) (c.get.ensures ∙ ap (λ recs. slice_get recs i) c.recs-recs.ensures))
+    ap (λ b. b || c.names_entry-named.result) c.loop-number.invariant
+    ∙ ap (λ b. list_any named (numbers_from 0 i) || b) (c.names_entry-named.ensures ∙ ap (names_entry c.args.off.now) (c.get.ensures ∙ ap (λ recs. slice_get recs i) c.recs-recs.ensures))
     ∙ sym (any-more named i)

@@ -9,7 +9,6 @@ pub loop-place-preserved : goal.loop-place-preserved
 loop-place-preserved c =
     let named = is_named_at c.args.logs.now c.args.off.now in
     let i = c.loop-place.place in
-    c.is_either-named.ensures
-    ∙ ap (λ b. b || c.is_named_at.result) c.loop-place.invariant
-    ∙ ap (λ b. list_any named (numbers_from 0 i) || b) c.is_named_at.ensures
+    ap (λ b. b || c.is_named_at-named.result) c.loop-place.invariant
+    ∙ ap (λ b. list_any named (numbers_from 0 i) || b) c.is_named_at-named.ensures
     ∙ sym (any-more named i)

@@ -8,5 +8,5 @@ pub loop-turn-preserved : goal.loop-turn-preserved
 loop-turn-preserved c =
     let found = c.loop-turn.found.items in
     given-next (λ (turn : ℕ). option_to_list (missing_break c.args.begins.now c.args.broken.now c.args.ended.now c.args.came.now turn)) c.loop-turn.turn c.args.found.now.items found
-    c.push_cause.new.found.items c.loop-turn.invariant
-    (c.in_ok-push_cause.ensures ∙ ap (λ cause. found ++ option_to_list cause) c.missing_break.ensures)
+    c.push_some.new.found.items c.loop-turn.invariant
+    (c.in_ok-push_some.ensures ∙ ap (λ cause. found ++ option_to_list cause) c.missing_break.ensures)

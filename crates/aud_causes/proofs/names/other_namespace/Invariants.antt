@@ -1,7 +1,0 @@
-use Rattle.std.proofs.Common.{◌≡◌, drop, map}
-use Rattle.aud_causes.specs.Names.{other_namespace}
-use Rattle.aud_causes.proofs.names.other_namespace.Given as goal
-
--- what is to come gives the stay
-abbrev pub invariant-loop-number : goal.invariant-loop-number
-invariant-loop-number l = other_namespace l.nsp l.number (map (λ stay. stay.now) (drop l.number l.stays)) ≡ other_namespace l.nsp 0 (map (λ stay. stay.now) l.stays)
