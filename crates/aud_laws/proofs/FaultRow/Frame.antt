@@ -34,7 +34,7 @@ module _ (c : Cluster) (lines : List TapLines) (known : KnowsEachRecord c.taps l
 
   pub frame_shown : (pid : Text) (s t : SessionLogs) (rows : List RowSeen) → IsSession c pid s → is_some (transcript c s).bad ≡ true → IsSession c pid t
       → ShowsOr (ShowsFrame c lines t.client) (bad_number c t.client ≡ None) rows → has_fault_row rows ≡ true
-  frame_shown pid s t rows is has it (inl shows) = 
+  frame_shown pid s t rows is has it (inl shows) =
       ap has_fault_row shows.are_its_rows ∙ marked_after (lacking_row c lines t.client Earlier) (row_and (bad_row c lines t.client Fault) []) (marked_and (bad_row c lines t.client Fault) [] (number_marked t.client shows.number shows.is_bad))
   frame_shown pid s t rows is has it (inr (none, empty)) =
       absurd (true≢false (sym has ∙ ap is_some (bad_at_client c s ∙ ap (λ (u : SessionLogs). bad_number c u.client) (one_session c pid s t is it) ∙ none)))

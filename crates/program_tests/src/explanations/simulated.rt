@@ -110,6 +110,7 @@ sessions: *"#,
 no p1 FRAME [packets]
 client c1, namespace /, connection 1, turns 1, delivery not judged
     line tap  record
+      11 c1   conn 1 packet, attachments missing: 1  earlier
       14 c1   conn 1 no packet  <- no packet
     turn 0  n1  5 open, cursor 0 == take 1-2 == 13 log ends, cursor 2
     client  7 reply
