@@ -1,5 +1,5 @@
 -- What the clients' taps tell, each by the records of its own lines.
-use Rattle.std.proofs.Common.{◌≡◌, ◌+◌, ◌<◌, ℕ, suc, true, false, List, [], ◌∷◌, ◌++◌, length, map, take, Option, Some, None, option_map, Result, Ok, Err, slice_get, refl, sym, ap, ◌∙◌, subst, arith, append_assoc, append-nil}
+use Rattle.std.proofs.Common.{◌≡◌, ◌+◌, ◌<◌, ℕ, suc, true, false, List, [], ◌∷◌, ◌++◌, length, map, take, Option, Some, None, option_map, Result, Ok, Err, slice_get, sym, ap, ◌∙◌, subst, arith, append_assoc, append-nil}
 use Rattle.std.specs.List.{All, AllZip}
 use Rattle.std.specs.Option.{option_flatten, option_map_or}
 use Rattle.std.proofs.lemmas.Grind.{common_steps}
@@ -7,7 +7,6 @@ use Rattle.std.proofs.lemmas.List.{map-append, take_more}
 use Rattle.std.proofs.lemmas.Option.{get_or_from_slice_get, slice_get-map}
 use Rattle.std.proofs.lemmas.List.Elements.{All-nil, All-push}
 use Rattle.aud_tap.specs.declared.records.ClientRec.{ClientRec}
-use Rattle.aud_tap.specs.declared.records.NodeRec.{NodeRec}
 use Rattle.aud_tap.specs.declared.records.Rec.TheVariants as rec
 use Rattle.aud_tap.specs.declared.records.StreamRec.{StreamRec}
 use Rattle.aud_tap.specs.declared.records.TapKind.{TapKind}
@@ -28,38 +27,22 @@ use Rattle.aud_parts.specs.TapRuns.{TapRuns, runs_lines}
 use Rattle.aud_parts.specs.Together.{IsToldBy}
 use Rattle.aud_parts.specs.Private.ClientSteps.{AreAdded, AreSoFar, AreTold, Holds, IsTold, clients_told, refused_told}
 use Rattle.aud_parts.specs.Private.TapsRead.{HoldsLines}
-use Rattle.aud_parts.proofs.ServersLemmas.{each-more, never-none}
+use Rattle.aud_parts.proofs.ListSteps.{each-push}
+use Rattle.aud_parts.proofs.ServersLemmas.{never-none}
 
 -- ---- one tap
 
-module _ (name : List ℕ) (lines : List Line) (taps : List Tap) (own : HaveTheirOwnLines lines taps) where
-  -- of its name none was read
-  pub client-none : tap_named name taps ≡ None → is_client name lines ≡ false
-  client-none none = ap (λ rs. is_clients (slice_get rs 0)) (own name ∙ ap (λ o. option_map_or recs_of o []) none)
-
-  module _ (t : Tap) (named : tap_named name taps ≡ Some t) where
-    by-records : (rs : Records) → t.records ≡ rs → is_client name lines ≡ is_clients (Some (rec.Header (kind_of_tap rs) t.version))
-    by-records rs is =
-        ap (λ rs. is_clients (slice_get rs 0)) (own name ∙ ap (λ o. option_map_or recs_of o []) named)
-        ∙ ap (λ (rs : Records). is_clients (Some (rec.Header (kind_of_tap rs) t.version))) is
-
-    -- it is a stream's, or a node's
-    pub client-stream : (entries : List StreamRec) → t.records ≡ records.Stream entries → is_client name lines ≡ false
-    client-stream entries is = by-records (records.Stream entries) is
-
-    pub client-node : (log : List NodeRec) → t.records ≡ records.Node log → is_client name lines ≡ false
-    client-node log is = by-records (records.Node log) is
-
-    -- it is a client's
-    pub client-told : (stream : List StreamRec) (recs : List ClientRec) (client : MeasuredClient) → t.records ≡ records.Client recs → IsToldBy stream recs client → IsToldOf stream name lines client
-    client-told stream recs client is told = record {
-      version = t.version;
-      recs = recs;
-      records =
-          own name ∙ ap (λ o. option_map_or recs_of o []) named
-          ∙ ap (λ (rs : Records). rec.Header (kind_of_tap rs) t.version ∷ recs_in rs) is;
-      told = told;
-    }
+-- it is a client's
+pub client-told : (name : List ℕ) (lines : List Line) (taps : List Tap) → HaveTheirOwnLines lines taps → (t : Tap) → tap_named name taps ≡ Some t → (stream : List StreamRec) (recs : List ClientRec)
+    (client : MeasuredClient) → t.records ≡ records.Client recs → IsToldBy stream recs client → IsToldOf stream name lines client
+client-told name lines taps own t named stream recs client is told = record {
+  version = t.version;
+  recs = recs;
+  records =
+      own name ∙ ap (λ o. option_map_or recs_of o []) named
+      ∙ ap (λ (rs : Records). rec.Header (kind_of_tap rs) t.version ∷ recs_in rs) is;
+  told = told;
+}
 
 -- ---- one tap after another
 
@@ -74,18 +57,7 @@ told-more files stream read tap clients more refusal new (Ok None) before is pus
 told-more files stream read tap clients more refusal new (Ok (Some client)) before is pushed refused none =
     let own : is_client tap.name (runs_lines files tap.runs) ≡ true = ap (λ rs. is_clients (slice_get rs 0)) is.records in
     let among : clients_among files (read ++ tap ∷ []) ≡ clients_among files read ++ tap ∷ [] = grind (arith, common_steps, own) in
-    rw (among, pushed) (each-more (IsToldOfTap files stream) tap client (clients_among files read) clients (before (sym refused ∙ none)) is)
-
--- before the first
-pub added-none : (files : List (List ℕ)) (stream : List StreamRec) (read taps : List TapRuns) (tolds : List (Result (Option MeasuredClient) RefusedLine)) (refusal : Option RefusedLine) (clients : List MeasuredClient)
-    → AreTold files stream taps tolds → (refusal ≡ None → AreToldOf files stream read clients) → AreAdded files stream read taps tolds refusal clients
-added-none files stream read taps tolds refusal clients each told = record {
-  done = [];
-  rest = taps;
-  whole = refl;
-  each = each;
-  told = λ none. rw (append-nil read) (told none);
-}
+    rw (among, pushed) (each-push (IsToldOfTap files stream) (clients_among files read) clients tap client (before (sym refused ∙ none)) is)
 
 -- one more
 pub added-more : (files : List (List ℕ)) (stream : List StreamRec) (read taps : List TapRuns) (told : Result (Option MeasuredClient) RefusedLine) (all left : List (Result (Option MeasuredClient) RefusedLine))
@@ -180,10 +152,3 @@ module _ (files : List (List ℕ)) (taps : List TapRuns) (kinds : List (Option T
   others-client within client =
       let own : is_server (kind_told files tap) ≡ false = sym at-place ∙ client in
       ap (others_among files) (next-taps within) ∙ grind (arith, common_steps, own)
-
--- where none is held any more, all is told
-pub so-far-all : (files : List (List ℕ)) (taps : List TapRuns) (reading : ClientsReading) → AreSoFar files taps reading → reading.held.items ≡ [] → reading.refusal ≡ None
-    → AreToldOf files reading.stream.now taps reading.clients.items
-so-far-all files taps reading so none unrefused =
-    let whole : taps ≡ so.read = so.whole ∙ ap (λ helds. so.read ++ map (λ (held : HeldTap). held.tap.now) helds) none ∙ append-nil so.read in
-    rw whole (so.told unrefused)

@@ -1,4 +1,3 @@
-mod ListLemmas
 mod OwnLemmas
 mod EntryLemmas
 mod MarkLemmas
@@ -11,7 +10,6 @@ pub mod CutLemmas
 pub mod NumberLemmas
 pub mod ListingLemmas
 pub mod NamedLinesLemmas
-pub mod ServerLinesLemmas
 pub mod PartLemmas
 pub mod ReportLemmas
 pub mod SlotLemmas

@@ -1,12 +1,12 @@
 -- Steps of loops over lists, and what lists have after a sort.
-use Rattle.std.proofs.Common.{◌≡◌, ◌<◌, ◌+◌, ℕ, suc, Bool, true, false, not, cond, ◌||◌, List, [], ◌∷◌, ◌++◌, length, map, take, drop, get_or, Option, Some, None, option_map, slice_get, nat_lt, refl, sym, ap, ◌∙◌, arith}
+use Rattle.std.proofs.Common.{◌≡◌, ◌<◌, ◌+◌, ℕ, suc, Bool, true, false, not, cond, ◌||◌, List, [], ◌∷◌, ◌++◌, length, map, take, drop, get_or, Option, Some, None, option_map, slice_get, nat_lt, refl, sym, subst, ap, ◌∙◌, arith}
 use Rattle.std.specs.List.{list_any, flat_map, filter_map, cons_option, dedup, dedup_from, position, position_or_len}
 use Rattle.std.specs.Option.{option_to_list}
 use Rattle.std.specs.Prelude.{nat_eq}
 use Rattle.std.proofs.lemmas.Bool.{eqb-true, lt-ltb, le-ltb, ltb-true, ltb-false}
 use Rattle.std.proofs.lemmas.List.{flat_map_more, take_more}
 use Rattle.std.proofs.lemmas.List.Elements.{filter_map-append}
-use Rattle.std.proofs.lemmas.List.Folds.{list_any-append}
+use Rattle.std.proofs.lemmas.List.Folds.{list_any-append, list_any_more}
 use Rattle.aud_base.specs.OneForEach.{OneForEach}
 use Rattle.aud_tap.specs.Names.{first_index}
 use Rattle.aud_base.proofs.Lists.{drop_at}
@@ -31,6 +31,21 @@ filter_map-item f xs i x old new within read before after =
     ∙ sym (filter_map-append f (take i xs) (x ∷ []))
     ∙ ap (λ y. filter_map f (take i xs ++ y ∷ [])) read ∙ sym (ap (filter_map f) (take_more xs i x within))
 
+-- what stands for each element, and for one more
+pub each-push : {A B : Type 0} (Is : A → B → Type 0) (xs : List A) (ys : List B) (x : A) (y : B) → OneForEach Is xs ys → Is x y → OneForEach Is (xs ++ x ∷ []) (ys ++ y ∷ [])
+each-push Is [] [] x y all one = (one, tt)
+each-push Is [] (b ∷ ys) x y all one = absurd all
+each-push Is (a ∷ xs) [] x y all one = absurd all
+each-push Is (a ∷ xs) (b ∷ ys) x y all one = (all.0, each-push Is xs ys x y all.1 one)
+
+-- the same of the elements so far
+pub each-more : {A B : Type 0} (Is : A → B → Type 0) (xs : List A) (i : ℕ) (x : A) (old new : List B) (y : B) → i < length xs → x ≡ get_or xs i x
+    → OneForEach Is (take i xs) old → Is x y → new ≡ old ++ y ∷ [] → OneForEach Is (take (i + 1) xs) new
+each-more Is xs i x old new y within read all one put =
+    subst (λ zs. OneForEach Is zs new) (sym (take_more xs i x within))
+    (subst (λ z. OneForEach Is (take i xs ++ z ∷ []) new) read
+    (subst (OneForEach Is (take i xs ++ x ∷ [])) (sym put) (each-push Is (take i xs) old x y all one)))
+
 -- what stands for each element from an index on, with the element at that index
 pub one_for_each-from : {A B : Type 0} (Is : A → B → Type 0) (xs : List A) (ys : List B) (i : ℕ) (x : A) (y : B)
     → slice_get xs i ≡ Some x → slice_get ys i ≡ Some y → Is x y
@@ -43,6 +58,12 @@ one_for_each-from Is xs ys i x y at_x at_y here rest = rw (drop_at xs i x at_x, 
 or_twice : (a b : Bool) → (a || b) ≡ (a || (a || b))
 or_twice true b = refl
 or_twice false b = refl
+
+-- one more element, which may pass
+pub any-item : {X : Type 0} (p : X → Bool) (xs : List X) (i : ℕ) (x : X) → i < length xs → x ≡ get_or xs i x → (old new : Bool)
+    → old ≡ list_any p (take i xs) → new ≡ (old || p x) → new ≡ list_any p (take (i + 1) xs)
+any-item p xs i x within read old new before after =
+    after ∙ ap (λ b. b || p x) before ∙ ap (λ y. list_any p (take i xs) || p y) read ∙ sym (list_any_more p xs i x within)
 
 -- whether any of what the elements give passes
 pub any-flat_map : {A B : Type 0} (test : B → Bool) (f : A → List B) (xs : List A) → list_any test (flat_map f xs) ≡ list_any (λ x. list_any test (f x)) xs

@@ -21,22 +21,12 @@ use Rattle.aud_parts.specs.PartLines.{PartOfTap, client_number, is_server_at, no
 use Rattle.aud_parts.specs.ServerTexts.{ServerTexts}
 use Rattle.aud_parts.specs.TapRuns.{TapRuns, ended, runs_lines}
 use Rattle.aud_parts.specs.Private.PartSteps.{AreWritten, IsClientWritten}
-use Rattle.aud_parts.proofs.PassedLines.{passed-all, passed-more, passed-none, past-more}
+use Rattle.aud_parts.proofs.PassedLines.{passed-all, passed-more, past-more}
 
 -- ---- a client's tap
 
 abbrev number : Line → ℕ
 number line = line.number
-
--- the header is written
-pub client-begun : (files : List (List ℕ)) (tap : TapRuns) (old new : Option (List ℕ)) (numbers : List ℕ) → Appends old new (line_text tap.name (Header Client Two) ++ 10 ∷ [])
-    → IsClientWritten files tap old new numbers numbers tap.runs 1
-client-begun files tap old new numbers written = record {
-  done = [];
-  passed = passed-none files tap;
-  written = written;
-  added = sym (append-nil numbers);
-}
 
 -- the lines of a piece more
 pub client-on : (files : List (List ℕ)) (tap : TapRuns) (old now new : Option (List ℕ)) (before after more : List ℕ) (left rest : List Run) (lines : List Line) (skipped still : ℕ)

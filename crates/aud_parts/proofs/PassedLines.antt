@@ -1,5 +1,5 @@
 -- The lines of a tap are read again, piece after piece, of which the first is its header.
-use Rattle.std.proofs.Common.{◌≡◌, ℕ, zero, suc, ◌-◌, List, [], ◌∷◌, ◌++◌, drop, length, refl, sym, ap, ◌∙◌, arith, append_assoc, append-nil, length-append}
+use Rattle.std.proofs.Common.{◌≡◌, ℕ, zero, suc, ◌-◌, List, [], ◌∷◌, ◌++◌, drop, length, sym, ap, ◌∙◌, arith, append_assoc, append-nil, length-append}
 use Rattle.aud_reader.specs.declared.line.Line.{Line}
 use Rattle.aud_parts.specs.declared.tap_index.tap_runs.Run.{Run}
 use Rattle.aud_parts.specs.TapRuns.{TapRuns, runs_lines}
@@ -16,10 +16,6 @@ drop_both (suc n) (x ∷ xs) ys =
     drop_both n xs ys ∙ ap (λ k. drop n xs ++ drop k ys) same
 
 module _ (files : List (List ℕ)) (tap : TapRuns) where
-  -- before the first piece
-  pub passed-none : ArePassed files tap [] tap.runs 1
-  passed-none = record { whole = refl; skips = refl }
-
   -- a piece more
   pub passed-more : (done lines : List Line) (left rest : List Run) (skipped still : ℕ) → ArePassed files tap done left skipped → runs_lines files left ≡ lines ++ runs_lines files rest
       → still ≡ skipped - length lines → ArePassed files tap (done ++ lines) rest still

@@ -6,7 +6,6 @@ use Rattle.std.proofs.lemmas.List.{map-append}
 use Rattle.std.proofs.lemmas.List.Elements.{filter_map-append}
 use Rattle.std.proofs.lemmas.Grind.{common_steps}
 use Rattle.std.proofs.lemmas.Option.{same_Some}
-use Rattle.aud_base.specs.OneForEach.{OneForEach}
 use Rattle.aud_tap.specs.declared.records.NodeRec.{NodeRec}
 use Rattle.aud_tap.specs.Forms.{is_text}
 use Rattle.aud_tap.specs.declared.records.Rec.{Rec}
@@ -25,13 +24,15 @@ use Rattle.aud_reader.specs.Bundle.{kind_of_tap, tap_named}
 use Rattle.aud_reader.specs.Record.{line_record}
 use Rattle.aud_reader.specs.OwnLines.{HaveTheirOwnLines, if_for, record_for, records_for, recs_in, recs_of}
 use Rattle.aud_parts.specs.declared.servers.Header.{Header}
+use Rattle.aud_parts.specs.declared.servers.Reading.{Reading}
 use Rattle.aud_parts.specs.declared.tap_index.tap_runs.Run.{Run}
 use Rattle.aud_parts.specs.declared.tap_index.first_refusal.RefusedLine.{RefusedLine}
 use Rattle.aud_parts.specs.FirstRefusal.{first_refused}
 use Rattle.aud_parts.specs.ServersRead.{AreServers, IsOwnTap, header_for, header_in, is_server, kind_told, line_numbers, servers_among}
 use Rattle.aud_parts.specs.TapRuns.{TapRuns, runs_lines}
-use Rattle.aud_parts.specs.Private.ServerSteps.{IsHeaderOf, IsLogRead, stream_recs}
-use Rattle.aud_parts.proofs.PassedLines.{passed-all, passed-more, passed-none, past-more}
+use Rattle.aud_parts.specs.Private.ServerSteps.{AddsServer, IsHeaderOf, IsLogRead, stream_recs}
+use Rattle.aud_parts.proofs.ListSteps.{each-push}
+use Rattle.aud_parts.proofs.PassedLines.{passed-all, passed-more, past-more}
 
 -- ---- the header
 
@@ -133,10 +134,6 @@ stream-own files runs tap line taps own at says named is =
 -- ---- a node's tap, piece after piece
 
 module _ (files : List (List ℕ)) (tap : TapRuns) where
-  -- before the first
-  pub log-none : IsLogRead files tap tap.runs 1 [] []
-  log-none = record { done = []; passed = passed-none files tap; records = refl; numbers = refl }
-
   -- one more
   pub log-on : (left rest : List Run) (lines : List Line) (skipped still : ℕ) (log new : List NodeRec) (numbers more : List LineRun) → IsLogRead files tap left skipped log numbers
       → runs_lines files left ≡ lines ++ runs_lines files rest → map rec.Node new ≡ map rec.Node log ++ records_for tap.name (drop skipped lines)
@@ -170,11 +167,17 @@ module _ (files : List (List ℕ)) (tap : TapRuns) where
 
 -- ---- one tap after another
 
-pub each-more : {A B : Type 0} (Is : A → B → Type 0) (x : A) (y : B) (xs : List A) (ys : List B) → OneForEach Is xs ys → Is x y → OneForEach Is (xs ++ x ∷ []) (ys ++ y ∷ [])
-each-more Is x y [] [] each is = (is, tt)
-each-more Is x y [] (b ∷ ys) each is = absurd each
-each-more Is x y (a ∷ xs) [] each is = absurd each
-each-more Is x y (a ∷ xs) (b ∷ ys) each is = (each.0, each-more Is x y xs ys each.1 is)
+-- such a tap was added
+pub added : (files : List (List ℕ)) (runs : TapRuns) (old new : Reading) (tap : Tap) (numbers : List LineRun) → IsOwnTap files runs tap
+    → lines_of_runs numbers ≡ line_numbers files runs → new.taps.items ≡ old.taps.items ++ tap ∷ [] → new.lines.items ≡ old.lines.items ++ numbers ∷ []
+    → new.kinds.items ≡ old.kinds.items → AddsServer files runs old new
+added files runs old new tap numbers own are taps lines kinds = record {
+  tap = tap;
+  own = own;
+  taps = taps;
+  lines = ap (map lines_of_runs) lines ∙ map-append lines_of_runs old.lines.items (numbers ∷ []) ∙ ap (λ ns. map lines_of_runs old.lines.items ++ ns ∷ []) are;
+  kinds = kinds;
+}
 
 module _ (files : List (List ℕ)) (done : List TapRuns) (runs : TapRuns) where
   -- of the stream or of a node
@@ -193,7 +196,7 @@ module _ (files : List (List ℕ)) (done : List TapRuns) (runs : TapRuns) where
         → map lines_of_runs lines' ≡ map lines_of_runs lines ++ line_numbers files runs ∷ [] → AreServers files (done ++ runs ∷ []) more taps' lines'
     server-more tap taps' lines' all pushed server own pushed_tap pushed_lines = record {
       kinds_are = kinds-more all pushed;
-      taps_are = rw (among-server server, pushed_tap) (each-more (IsOwnTap files) runs tap (servers_among files done) taps all.taps_are own);
+      taps_are = rw (among-server server, pushed_tap) (each-push (IsOwnTap files) (servers_among files done) taps runs tap all.taps_are own);
       lines_are =
           pushed_lines ∙ ap (λ ls. ls ++ line_numbers files runs ∷ []) all.lines_are
           ∙ sym (map-append (line_numbers files) (servers_among files done) (runs ∷ []))

@@ -9,7 +9,7 @@ ghost use Rattle.aud_reader.specs.OwnLines.{HaveTheirOwnLines};
 ghost use Rattle.aud_parts.specs.ClientsRead.{AreToldOf, others_among};
 ghost use Rattle.aud_parts.specs.ServersRead.{kind_told};
 ghost use Rattle.aud_parts.specs.TapRuns.{MayBeRead, TapRuns};
-ghost use Rattle.aud_parts.specs.Private.ClientSteps.{AreSoFar, AreTold, Holds, IsMeasured, IsTold, clients_told, refused_told};
+ghost use Rattle.aud_parts.specs.Private.ClientSteps.{AreSoFar, AreTold, IsMeasured, IsTold, clients_told, refused_told};
 ghost use Rattle.aud_parts.specs.Private.TapsRead.{HoldsLines, IsReadOf};
 
 use crate::clients::facts::client_facts;
@@ -90,22 +90,6 @@ struct HeldTap<'a> {
     runs: Vec<HeldRun>,
 }
 
-/// What is told of a tap that is held.
-fn told_of_held(
-    alloc: Global,
-    keys: RandomState,
-    stream: &Stream<'_>,
-    held: &HeldTap<'_>,
-) -> Result<Told, AllocError>
-    ensures { (lines : List Line) → HoldsLines lines held.now.runs.items
-        → IfOk result (IsTold stream.now held.now.tap.now.name lines) }
-{
-    match read_held(alloc, keys, &held.runs) {
-        Ok(read) => told_of(alloc, stream, held.tap, read),
-        Err(_) => Err(AllocError),
-    }
-}
-
 /// The clients' taps that were read, in the order of the index.
 #[derive(Drop)]
 struct ClientsReading<'a> {
@@ -157,25 +141,6 @@ impl<'a> ClientsReading<'a> {
         Ok(())
     }
 
-    /// What is told of the taps that are held, which are read side by side.
-    fn told_of_all<H: Threads + Sync>(&self, rt: &H) -> Result<Vec<Told>, AllocError>
-        ensures { (files : List (List ℕ)) → All (Holds files) self.now.held.items
-            → IfOk result (λ all. AreTold files self.now.stream.now
-            (map (λ held. held.tap.now) self.now.held.items) all.items) }
-    {
-        let (alloc, keys, stream) = (self.alloc, self.keys, self.stream);
-        try_map(
-            rt,
-            alloc,
-            self.threads,
-            self.held.as_slice(),
-            |held: &HeldTap<'_>| -> Result<Told, AllocError>
-                ensures { (lines : List Line) → HoldsLines lines held.now.runs.items
-                    → IfOk result (IsTold stream.entry.now held.now.tap.now.name lines) }
-            { told_of_held(alloc, keys, stream, held) },
-        )
-    }
-
     /// Reads the taps that are held, side by side.
     fn read_batch<H: Threads + Sync>(&mut self, rt: &H) -> Result<(), AllocError>
         ensures told { (files : List (List ℕ)) (taps : List TapRuns)
@@ -183,7 +148,22 @@ impl<'a> ClientsReading<'a> {
         ensures held { OnOk result (self.new.held.items ≡ []) }
         ensures stream { self.new.stream ≡ self.old.stream }
     {
-        let all = self.told_of_all(rt)?;
+        let (alloc, keys, stream) = (self.alloc, self.keys, self.stream);
+        let all = try_map(
+            rt,
+            alloc,
+            self.threads,
+            self.held.as_slice(),
+            |held: &HeldTap<'_>| -> Result<Told, AllocError>
+                ensures { (lines : List Line) → HoldsLines lines held.now.runs.items
+                    → IfOk result (IsTold stream.entry.now held.now.tap.now.name lines) }
+            {
+                match read_held(alloc, keys, &held.runs) {
+                    Ok(read) => told_of(alloc, stream, held.tap, read),
+                    Err(_) => Err(AllocError),
+                }
+            },
+        )?;
         self.add_all(all)?;
         self.held.clear();
         self.bytes = 0;

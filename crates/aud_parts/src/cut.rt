@@ -3,7 +3,7 @@ ghost use Rattle.std.specs.Prelude.{◌≡◌, ◌<◌, IfOk, IfSome, length, op
 ghost use Rattle.std.specs.Str.{is_utf8};
 ghost use Rattle.aud_tap.specs.Forms.{passing};
 ghost use Rattle.aud_tap.specs.WellFormed.{is_session_id};
-ghost use Rattle.aud_parts.specs.Cut.{after_prefix, cut_at, number_in, whole_lines, with_digit};
+ghost use Rattle.aud_parts.specs.Cut.{cut_at, number_in, whole_lines, with_digit};
 
 use aud_tap::is_session_id;
 use memchr::memchr;
@@ -25,12 +25,6 @@ impl<'a> Model for LentBytes<'a> {
 }
 
 impl<'a> LentBytes<'a> {
-    fn new(bytes: &'a [u8]) -> LentBytes<'a>
-        ensures { result ≡ bytes.now }
-    {
-        LentBytes { bytes }
-    }
-
     /// The bytes.
     pub(crate) fn as_slice(&self) -> &'a [u8]
         ensures { result.now ≡ self.now }
@@ -58,7 +52,7 @@ pub(crate) fn whole_lines<'a>(
     let mut lines = Vec::new(alloc);
     let mut left = text;
     'lines: while let Some((line, rest)) = cut_at(b'\n', left) {
-        lines.push(LentBytes::new(line))?;
+        lines.push(LentBytes { bytes: line })?;
         left = rest;
     }
     if left.is_empty() {
@@ -92,13 +86,6 @@ pub(crate) fn number_in(text: &[u8]) -> Option<usize>
         number = with_digit(number, *digit)?;
     }
     Some(number)
-}
-
-/// What follows these bytes, where the text begins with them.
-pub(crate) fn after_prefix<'a>(prefix: &[u8], text: &'a [u8]) -> Option<&'a [u8]>
-    ensures { option_map (λ rest. rest.now) result ≡ after_prefix prefix.now text.now }
-{
-    text.strip_prefix(prefix)
 }
 
 /// The bytes as a text, if they are UTF-8.

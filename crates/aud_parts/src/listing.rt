@@ -4,8 +4,8 @@ pub mod fault;
 pub mod of_plan;
 pub mod reading;
 
-ghost use Rattle.std.specs.Prelude.{◌≡◌, ◌++◌, ◌+◌, ◌^◌, ◌<◌, true, IfOk, IsTrue, OnOk, Ok, string_bytes};
-ghost use Rattle.aud_parts.specs.Listing.{are_within, is_listing, listing_of, listing_text, session_line};
+ghost use Rattle.std.specs.Prelude.{◌≡◌, true, IfOk, IsTrue, Ok, string_bytes};
+ghost use Rattle.aud_parts.specs.Listing.{are_within, is_listing, listing_of, listing_text};
 
 use aud_base::Listed;
 use aud_tap::Text;
@@ -28,17 +28,6 @@ pub struct Listing {
     pub sessions: Listed<ListedSession>,
 }
 
-/// Puts the line of a session at the end.
-fn push_session(out: &mut String, session: &ListedSession) -> Result<(), AllocError>
-    requires { session.now.part + 1 < 2 ^ 64 }
-    ensures { OnOk result (string_bytes out.new
-        ≡ string_bytes out.old ++ session_line session.now) }
-{
-    let number = session.part + 1;
-    let pid = session.pid.as_str();
-    writeln!(out, "{number} {pid}")
-}
-
 /// The text of a listing: a line `parts=<number> sessions=<number>`, and for each session, in their order, a line
 /// `<part> <pid>`. [`read_listing`](crate::read_listing) reads it.
 pub fn listing_text(alloc: Global, listing: &Listing) -> Result<String, AllocError>
@@ -53,7 +42,9 @@ pub fn listing_text(alloc: Global, listing: &Listing) -> Result<String, AllocErr
     let count = sessions.len();
     writeln!(&mut out, "parts={parts} sessions={count}")?;
     for session in sessions {
-        push_session(&mut out, session)?;
+        let number = session.part + 1;
+        let pid = session.pid.as_str();
+        writeln!(&mut out, "{number} {pid}")?;
     }
     Ok(out)
 }

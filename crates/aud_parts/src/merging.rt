@@ -107,7 +107,8 @@ fn gather<'a>(
     slots: &mut Slots<'a>,
     faults: &mut Vec<MergeFault>,
 ) -> Result<(), AllocError>
-    ensures slots { slots.old.items ≡ replicate (length parts.now) None → OnOk result (slots.new.items
+    ensures slots { slots.old.items ≡ replicate (length parts.now) None
+        → OnOk result (slots.new.items
         ≡ slots_of (map (λ part. part.items) parts.now) reports.now) }
     ensures faults { slots.old.items ≡ replicate (length parts.now) None → faults.old.items ≡ []
         → OnOk result (faults.new.items
@@ -156,7 +157,11 @@ fn line_at<'a>(
     let lines = lines.as_slice();
     if number < lines.len() {
         let line = &lines[number];
-        Some(line.again())
+        Some(ReportLine {
+            pid: line.pid,
+            is_yes: line.is_yes,
+            text: line.text,
+        })
     } else {
         None
     }

@@ -2,30 +2,11 @@
 pub mod fault;
 pub mod reading;
 
-ghost use Rattle.std.specs.Prelude.{◌≡◌, ◌++◌, true, IfOk, OnOk, Ok, string_bytes};
-ghost use Rattle.aud_parts.specs.NamedLines.{are_lines, ended, file_line, lines_text, part_of, run_line};
+ghost use Rattle.std.specs.Prelude.{◌≡◌, true, IfOk, Ok, string_bytes};
+ghost use Rattle.aud_parts.specs.NamedLines.{are_lines, lines_text, part_of};
 
-use aud_input::{InputFile, LineRun, PartLines};
+use aud_input::{LineRun, PartLines};
 use std::alloc::{AllocError, Global};
-
-/// Puts the line of a run at the end.
-fn push_run(out: &mut String, run: LineRun) -> Result<(), AllocError>
-    ensures { OnOk result (string_bytes out.new
-        ≡ string_bytes out.old ++ ended (run_line run)) }
-{
-    let LineRun { count, first } = run;
-    writeln!(out, "{count} {first}")
-}
-
-/// Puts the line of a file at the end.
-fn push_file(out: &mut String, file: &InputFile) -> Result<(), AllocError>
-    ensures { OnOk result (string_bytes out.new
-        ≡ string_bytes out.old ++ ended (file_line file.now)) }
-{
-    let lines = file.lines;
-    let name = file.name.as_str();
-    writeln!(out, "file={lines} {name}")
-}
 
 /// The text of a part's lines: a line `lines=<number> bytes=<number>` of its size; then a line `<count> <line>` for
 /// each run: so many of the part's lines, after those before, come from the lines of the recording from this one on;
@@ -43,10 +24,13 @@ pub fn lines_text(alloc: Global, part: &PartLines) -> Result<String, AllocError>
     let files = part.files.as_slice();
     writeln!(&mut out, "lines={lines} bytes={bytes}")?;
     for run in runs {
-        push_run(&mut out, *run)?;
+        let LineRun { count, first } = *run;
+        writeln!(&mut out, "{count} {first}")?;
     }
     for file in files {
-        push_file(&mut out, file)?;
+        let lines = file.lines;
+        let name = file.name.as_str();
+        writeln!(&mut out, "file={lines} {name}")?;
     }
     Ok(out)
 }

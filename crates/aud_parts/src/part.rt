@@ -8,7 +8,6 @@ pub mod text;
 
 ghost use Rattle.std.specs.Prelude.{◌≡◌, ◌++◌, IfOk, OnOk, map, option_to_list};
 ghost use Rattle.std.specs.List.{filter_map};
-ghost use Rattle.aud_upgrade.specs.Upgraded.{with_runs};
 ghost use Rattle.aud_parts.specs.PartTaps.{part_taps, part_entries, servers_left, tap_with, IsPartOfEach};
 ghost use Rattle.aud_parts.specs.Private.Kept.{entries_for, records_kept, tap_kept};
 ghost use Rattle.aud_parts.specs.Private.OwnRecords.{has};
@@ -21,7 +20,6 @@ use aud_node::{Logs, Stream};
 use aud_tap::{Records, Tap, Taps, Text};
 use aud_upgrade::{Joins, upgrade};
 use std::alloc::{AllocError, Global};
-use std::hash::RandomState;
 
 /// The stream's and the nodes' taps of the part for these sessions, in the order of their headers: what is left of those
 /// of the logs.
@@ -44,15 +42,8 @@ pub fn part_taps(
     ensures part { IfOk result (IsPartOfEach pids.now came.now logs.now) }
 {
     let left = left_taps(alloc, logs, pids, came)?;
-    taps_with_runs(alloc, logs.keys(), &left)
-}
-
-/// The taps in version 2, with the takes of the nodes as runs.
-fn taps_with_runs(alloc: Global, keys: RandomState, taps: &Taps) -> Result<Taps, AllocError>
-    ensures { IfOk result (λ new. new ≡ with_runs taps.now) }
-{
-    let logs = Logs::build(alloc, keys, taps)?;
-    upgrade(alloc, &logs, Joins::TakeAndTakes)
+    let whole = Logs::build(alloc, logs.keys(), &left)?;
+    upgrade(alloc, &whole, Joins::TakeAndTakes)
 }
 
 /// What is left of the taps, in the versions that they have.

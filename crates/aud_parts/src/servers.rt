@@ -12,7 +12,7 @@ ghost use Rattle.aud_tap.specs.declared.records.TapKind.TheVariants as kind;
 ghost use Rattle.aud_tap.specs.declared.records.Version.{Version};
 ghost use Rattle.aud_parts.specs.ServersRead.{AreServers, header_for, kind_told};
 ghost use Rattle.aud_parts.specs.TapRuns.{MayBeRead, TapRuns, runs_lines};
-ghost use Rattle.aud_parts.specs.Private.ServerSteps.{AddsServer, IsHeaderOf, IsServerRead, stream_recs};
+ghost use Rattle.aud_parts.specs.Private.ServerSteps.{AddsServer, IsHeaderOf, stream_recs};
 
 use crate::tap_index::first_refusal::{FirstRefusal, RefusedLine};
 use crate::tap_index::run_lines::{RunLines, first_line};
@@ -99,16 +99,6 @@ fn first_header<S: RunSource>(
     }
 }
 
-/// What the header says that the tap was put on.
-fn kind_in(header: &Option<Header>) -> Option<TapKind>
-    ensures { result ≡ option_map (λ h. h.of) header.now }
-{
-    match header {
-        Some(header) => Some(header.of),
-        None => None,
-    }
-}
-
 /// Reads the header of a tap and lines after it as a bundle of this tap alone.
 fn read_piece(
     alloc: Global,
@@ -126,17 +116,7 @@ fn read_piece(
     reader.finish()
 }
 
-/// Adds copies of the records. Their texts are shared.
-fn push_records(log: &mut NodeRecs, records: &NodeRecs) -> Result<(), AllocError>
-    ensures { OnOk result (log.new ≡ log.old ++ records.now) }
-{
-    for number in 0..records.len() {
-        log.push(copied_record(&records[number])?)?;
-    }
-    Ok(())
-}
-
-/// Adds copies of the records of the tap of this name, if it is a node's.
+/// Adds copies of the records of the tap of this name, if it is a node's. Their texts are shared.
 fn push_named(log: &mut NodeRecs, taps: &[Tap], name: &str) -> Result<(), AllocError>
     ensures { OnOk result (log.new ≡ log.old
         ++ node_recs (option_map (λ tap. tap.records) (tap_named name.now taps.now))) }
@@ -145,19 +125,14 @@ fn push_named(log: &mut NodeRecs, taps: &[Tap], name: &str) -> Result<(), AllocE
         return Ok(());
     };
     match &tap.records {
-        Records::Node(records) => push_records(log, records),
+        Records::Node(records) => {
+            for number in 0..records.len() {
+                log.push(copied_record(&records[number])?)?;
+            }
+            Ok(())
+        }
         Records::Stream(_) | Records::Client(_) => Ok(()),
     }
-}
-
-fn copied_stream(alloc: Global, entries: &StreamRecs) -> Result<StreamRecs, AllocError>
-    ensures { IfOk result (λ copy. copy ≡ entries.now) }
-{
-    let mut copy = StreamRecs::new(alloc);
-    for number in 0..entries.len() {
-        copy.push(copied_entry(alloc, &entries[number])?)?;
-    }
-    Ok(copy)
 }
 
 /// Copies of the entries of the tap of this name, if it is a stream's. Their texts are shared.
@@ -169,45 +144,14 @@ fn stream_named(alloc: Global, taps: &[Tap], name: &str) -> Result<StreamRecs, A
         return Ok(StreamRecs::new(alloc));
     };
     match &tap.records {
-        Records::Stream(entries) => copied_stream(alloc, entries),
-        Records::Node(_) | Records::Client(_) => Ok(StreamRecs::new(alloc)),
-    }
-}
-
-/// A tap of the stream or of a node, with the numbers of its lines; or its first refused line.
-type ServerRead = Result<(Tap, LineRuns), RefusedLine>;
-
-/// Reads the stream's tap, whose header this is.
-fn read_stream<S: RunSource>(
-    alloc: Global,
-    keys: RandomState,
-    source: &mut S,
-    buffer: &mut Vec<u8>,
-    tap: &TapRuns,
-    header: &Header,
-) -> Result<ServerRead, RunFault>
-    ensures read { (files : List (List ℕ)) → S.files source.old ≡ Some files
-        → MayBeRead files tap.now → IsHeaderOf files tap.now header.now
-        → header.now.of ≡ kind.Stream
-        → IfOk result (λ read. IfOk read (IsServerRead files tap.now)) }
-    ensures source { S.files source.new ≡ S.files source.old }
-{
-    let TapRead { read, lines, .. } = read_tap(alloc, keys, source, buffer, tap)?;
-    match read {
-        Ok(read) => {
-            let name = Text::new(alloc, tap.name())?;
-            let entries = stream_named(alloc, read.as_slice(), tap.name())?;
-            let version = header.version;
-            let records = Records::Stream(entries);
-            let tap = Tap {
-                name,
-                version,
-                records,
-            };
-            Ok(Ok((tap, lines)))
+        Records::Stream(entries) => {
+            let mut copy = StreamRecs::new(alloc);
+            for number in 0..entries.len() {
+                copy.push(copied_entry(alloc, &entries[number])?)?;
+            }
+            Ok(copy)
         }
-        Err(ReadFault::Input(number, code)) => Ok(Err(RefusedLine { number, code })),
-        Err(ReadFault::Memory) => Err(RunFault::Memory),
+        Records::Node(_) | Records::Client(_) => Ok(StreamRecs::new(alloc)),
     }
 }
 
@@ -235,52 +179,21 @@ fn read_lines(
     Ok(None)
 }
 
-/// Reads a node's tap, whose header this is.
-fn read_node<S: RunSource>(
-    alloc: Global,
-    keys: RandomState,
-    source: &mut S,
-    buffer: &mut Vec<u8>,
-    tap: &TapRuns,
-    header: &Header,
-) -> Result<ServerRead, RunFault>
-    ensures read { (files : List (List ℕ)) → S.files source.old ≡ Some files
-        → MayBeRead files tap.now → IsHeaderOf files tap.now header.now
-        → header.now.of ≡ kind.Node
-        → IfOk result (λ read. IfOk read (IsServerRead files tap.now)) }
-    ensures source { S.files source.new ≡ S.files source.old }
+/// Adds what the header says that its tap was put on.
+fn push_kind(kinds: &mut Vec<Option<TapKind>>, header: &Option<Header>) -> Result<(), AllocError>
+    ensures { OnOk result (kinds.new.items
+        ≡ kinds.old.items ++ option_map (λ h. h.of) header.now ∷ []) }
 {
-    let mut log = NodeRecs::new(alloc);
-    let mut runs = LineRuns::new(Vec::new(alloc));
-    // (the first line is the header)
-    let mut skipped = 1usize;
-    let mut left = RunLines::of(None, tap.runs());
-    'pieces: while let Some(lines) = left.next_lines(alloc, source, buffer)? {
-        push_numbers(&mut runs, &lines)?;
-        let others = lines_past(&lines, skipped);
-        let refused = read_lines(alloc, keys, tap.name(), &header.line, others, &mut log)?;
-        if let Some(line) = refused {
-            return Ok(Err(line));
+    match header {
+        Some(header) => {
+            kinds.push(Some(header.of))?;
+            Ok(())
         }
-        skipped = skipped.saturating_sub(lines.len());
+        None => {
+            kinds.push(None)?;
+            Ok(())
+        }
     }
-    let name = Text::new(alloc, tap.name())?;
-    let version = header.version;
-    let records = Records::Node(log);
-    let tap = Tap {
-        name,
-        version,
-        records,
-    };
-    Ok(Ok((tap, runs)))
-}
-
-/// Adds what a tap was put on.
-fn push_kind(kinds: &mut Vec<Option<TapKind>>, kind: Option<TapKind>) -> Result<(), AllocError>
-    ensures { OnOk result (kinds.new.items ≡ kinds.old.items ++ kind ∷ []) }
-{
-    kinds.push(kind)?;
-    Ok(())
 }
 
 /// What is read so far.
@@ -295,19 +208,90 @@ struct Reading {
 }
 
 impl Reading {
-    /// Adds a tap of the stream or of a node; tells which line is refused.
-    fn add(&mut self, read: ServerRead) -> Result<Option<RefusedLine>, AllocError>
-        ensures { (files : List (List ℕ)) (tap : TapRuns) → IfOk read (IsServerRead files tap)
-            → IfOk result (λ refused. refused ≡ None → AddsServer files tap self.old self.new) }
+    /// Adds a tap of the stream or of a node, with the numbers of its lines.
+    fn add(&mut self, tap: Tap, lines: LineRuns) -> Result<(), AllocError>
+        ensures taps { OnOk result (self.new.taps.items ≡ self.old.taps.items ++ tap ∷ []) }
+        ensures lines { OnOk result (self.new.lines.items ≡ self.old.lines.items ++ lines ∷ []) }
+        ensures kinds { self.new.kinds.items ≡ self.old.kinds.items }
     {
+        self.taps.push(tap)?;
+        self.lines.push(lines)?;
+        Ok(())
+    }
+
+    /// Reads the stream's tap, whose header this is; tells which line is refused.
+    fn read_stream<S: RunSource>(
+        &mut self,
+        source: &mut S,
+        buffer: &mut Vec<u8>,
+        tap: &TapRuns,
+        header: &Header,
+    ) -> Result<Option<RefusedLine>, RunFault>
+        ensures read { (files : List (List ℕ)) → S.files source.old ≡ Some files
+            → MayBeRead files tap.now → IsHeaderOf files tap.now header.now
+            → header.now.of ≡ kind.Stream → IfOk result (λ refused. refused ≡ None
+            → AddsServer files tap.now self.old self.new) }
+        ensures source { S.files source.new ≡ S.files source.old }
+    {
+        let TapRead { read, lines, .. } = read_tap(self.alloc, self.keys, source, buffer, tap)?;
         match read {
-            Ok((tap, lines)) => {
-                self.taps.push(tap)?;
-                self.lines.push(lines)?;
+            Ok(read) => {
+                let name = Text::new(self.alloc, tap.name())?;
+                let entries = stream_named(self.alloc, read.as_slice(), tap.name())?;
+                let version = header.version;
+                let records = Records::Stream(entries);
+                let tap = Tap {
+                    name,
+                    version,
+                    records,
+                };
+                self.add(tap, lines)?;
                 Ok(None)
             }
-            Err(line) => Ok(Some(line)),
+            Err(ReadFault::Input(number, code)) => Ok(Some(RefusedLine { number, code })),
+            Err(ReadFault::Memory) => Err(RunFault::Memory),
         }
+    }
+
+    /// Reads a node's tap, whose header this is; tells which line is refused.
+    fn read_node<S: RunSource>(
+        &mut self,
+        source: &mut S,
+        buffer: &mut Vec<u8>,
+        tap: &TapRuns,
+        header: &Header,
+    ) -> Result<Option<RefusedLine>, RunFault>
+        ensures read { (files : List (List ℕ)) → S.files source.old ≡ Some files
+            → MayBeRead files tap.now → IsHeaderOf files tap.now header.now
+            → header.now.of ≡ kind.Node → IfOk result (λ refused. refused ≡ None
+            → AddsServer files tap.now self.old self.new) }
+        ensures source { S.files source.new ≡ S.files source.old }
+    {
+        let (alloc, keys) = (self.alloc, self.keys);
+        let mut log = NodeRecs::new(alloc);
+        let mut runs = LineRuns::new(Vec::new(alloc));
+        // (the first line is the header)
+        let mut skipped = 1usize;
+        let mut left = RunLines::of(None, tap.runs());
+        'pieces: while let Some(lines) = left.next_lines(alloc, source, buffer)? {
+            push_numbers(&mut runs, &lines)?;
+            let others = lines_past(&lines, skipped);
+            let refused = read_lines(alloc, keys, tap.name(), &header.line, others, &mut log)?;
+            if let Some(line) = refused {
+                return Ok(Some(line));
+            }
+            skipped = skipped.saturating_sub(lines.len());
+        }
+        let name = Text::new(alloc, tap.name())?;
+        let version = header.version;
+        let records = Records::Node(log);
+        let tap = Tap {
+            name,
+            version,
+            records,
+        };
+        self.add(tap, runs)?;
+        Ok(None)
     }
 
     /// Reads the first line of a tap, and the others unless it is a client's; tells which line is refused.
@@ -326,7 +310,7 @@ impl Reading {
         ensures source { S.files source.new ≡ S.files source.old }
     {
         let header = first_header(self.alloc, self.keys, source, buffer, tap)?;
-        push_kind(&mut self.kinds, kind_in(&header))?;
+        push_kind(&mut self.kinds, &header)?;
         let Some(header) = header else {
             return Ok(None);
         };
@@ -337,13 +321,9 @@ impl Reading {
             })),
             TapKind::Stream => {
                 self.has_stream = true;
-                let read = read_stream(self.alloc, self.keys, source, buffer, tap, &header)?;
-                Ok(self.add(read)?)
+                Ok(self.read_stream(source, buffer, tap, &header)?)
             }
-            TapKind::Node => {
-                let read = read_node(self.alloc, self.keys, source, buffer, tap, &header)?;
-                Ok(self.add(read)?)
-            }
+            TapKind::Node => Ok(self.read_node(source, buffer, tap, &header)?),
             TapKind::Client => Ok(None),
         }
     }

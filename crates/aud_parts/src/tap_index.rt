@@ -127,16 +127,7 @@ impl TapIndex {
             self.add_line(front)?;
             left = others;
         }
-        self.add_front(left)
-    }
-
-    /// Adds bytes, in which no newline stands, to the line that has begun.
-    fn add_front(&mut self, front: &[u8]) -> Result<(), AllocError>
-        ensures { (files : List (List ℕ)) (bytes : List ℕ) → has_newline front.now ≡ false
-            → IsCounted files (bytes ++ front.now) → ReadSoFar self.old files bytes
-            → OnOk result (ReadSoFar self.new files (bytes ++ front.now)) }
-    {
-        self.begun.add(front)
+        self.begun.add(left)
     }
 
     /// Adds the last bytes of the line that has begun, in which no newline stands, and ends it.
@@ -145,7 +136,7 @@ impl TapIndex {
             → IsCounted files (bytes ++ (front.now ++ 10 ∷ [])) → ReadSoFar self.old files bytes
             → OnOk result (ReadSoFar self.new files (bytes ++ (front.now ++ 10 ∷ []))) }
     {
-        self.add_front(front)?;
+        self.begun.add(front)?;
         self.end_line()
     }
 

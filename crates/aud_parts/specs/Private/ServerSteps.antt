@@ -26,12 +26,7 @@ pub record IsHeaderOf (files : List (List ℕ)) (runs : TapRuns) (header : Heade
   pub first : slice_get (runs_lines files runs.runs) 0 ≡ Some header.line
   pub says : header_for runs.name header.line ≡ Some (header.of, header.version)
 
--- the tap is that of its own lines, and these are their numbers
-pub record IsServerRead (files : List (List ℕ)) (runs : TapRuns) (read : Tap × List LineRun) : Type 0 where
-  pub own : IsOwnTap files runs read.0
-  pub numbers : lines_of_runs read.1 ≡ line_numbers files runs
-
--- such a tap was added
+-- the tap of these runs, which is that of its own lines, was added, with their numbers
 pub record AddsServer (files : List (List ℕ)) (runs : TapRuns) (old new : Reading) : Type 0 where
   pub tap : Tap
   pub own : IsOwnTap files runs tap

@@ -1,5 +1,5 @@
 //! The sessions of each part.
-ghost use Rattle.std.specs.Prelude.{◌≡◌, [], List, ℕ, IfOk, IsTrue, map, replicate};
+ghost use Rattle.std.specs.Prelude.{◌≡◌, List, ℕ, IfOk, IsTrue, map};
 ghost use Rattle.std.specs.Cmp.Lexicographic.{pointwise};
 ghost use Rattle.std.specs.Str.{bytes_eq};
 ghost use Rattle.aud_base.specs.Places.{places_of};
@@ -21,23 +21,15 @@ pub(crate) fn pids_by_part(alloc: Global, listing: &Listing) -> Result<Vec<Vec<T
     ensures { IfOk result (λ parts. map (λ part. part.items) parts.items
         ≡ pids_by_part listing.now) }
 {
-    let mut parts = empty_lists(alloc, listing.parts)?;
+    let mut parts = Vec::new(alloc);
+    for _part in 0..listing.parts {
+        parts.push(Vec::new(alloc))?;
+    }
     for session in listing.sessions.as_slice() {
         let pid = session.pid.share()?;
         parts[session.part].push(pid)?;
     }
     Ok(parts)
-}
-
-/// So many empty lists.
-fn empty_lists<T: Drop>(alloc: Global, count: usize) -> Result<Vec<Vec<T>>, AllocError>
-    ensures { IfOk result (λ all. map (λ one. one.items) all.items ≡ replicate count []) }
-{
-    let mut all = Vec::new(alloc);
-    for _i in 0..count {
-        all.push(Vec::new(alloc))?;
-    }
-    Ok(all)
 }
 
 /// The first of these pids; nothing where there is none.

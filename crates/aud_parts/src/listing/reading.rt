@@ -1,9 +1,9 @@
 //! The reading of the text that says which part has which session.
 ghost use Rattle.std.specs.Prelude.{◌≡◌, [], IfOk, IsTrue, map};
 ghost use Rattle.std.specs.List.{list_all};
-ghost use Rattle.aud_parts.specs.Listing.{Gives, are_new, are_within, checked, counts_in, has_some, is_full, is_listing, is_within, listing_after, listing_in, listing_of, number_under, session_in, session_of_words, sessions_in, unended_fault};
+ghost use Rattle.aud_parts.specs.Listing.{Gives, are_new, are_within, checked, counts_in, has_some, is_full, is_listing, is_within, listing_after, listing_in, listing_of, number_under, session_in, session_of_words, sessions_in};
 
-use crate::cut::{LentBytes, after_prefix, cut_at, number_in, pid_in, whole_lines};
+use crate::cut::{LentBytes, cut_at, number_in, pid_in, whole_lines};
 use crate::listing::by_part::pids_by_part;
 use crate::listing::fault::ListingFault;
 use crate::listing::{ListedSession, Listing};
@@ -16,7 +16,7 @@ use std::hash::RandomState;
 pub(crate) fn number_under(key: &[u8], word: &[u8]) -> Option<usize>
     ensures { result ≡ number_under key.now word.now }
 {
-    number_in(after_prefix(key, word)?)
+    number_in(word.strip_prefix(key)?)
 }
 
 /// How many parts and sessions the first line says that there are.
@@ -174,17 +174,6 @@ fn listing_in(
     }
 }
 
-/// Why a text isn't one whose last line is ended.
-fn unended_fault(text: &[u8]) -> ListingFault
-    ensures { result ≡ unended_fault text.now }
-{
-    if text.starts_with(b"parts=") {
-        ListingFault::CutShort
-    } else {
-        ListingFault::NoListing
-    }
-}
-
 /// The listing that a text is, as [`listing_text`](crate::listing_text) writes it. Pids are copied, and hashed with
 /// these keys. `Memory` may come in place of each other refusal.
 pub fn read_listing(alloc: Global, keys: RandomState, text: &[u8]) -> Result<Listing, ListingFault>
@@ -194,6 +183,7 @@ pub fn read_listing(alloc: Global, keys: RandomState, text: &[u8]) -> Result<Lis
 {
     match whole_lines(alloc, text)? {
         Some(lines) => listing_in(alloc, keys, &lines),
-        None => Err(unended_fault(text)),
+        None if text.starts_with(b"parts=") => Err(ListingFault::CutShort),
+        None => Err(ListingFault::NoListing),
     }
 }

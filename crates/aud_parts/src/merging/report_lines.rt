@@ -1,7 +1,7 @@
 //! A report, read again.
-ghost use Rattle.std.specs.Prelude.{◌≡◌, ◌++◌, IfOk, OnOk, count_by, string_bytes, option_map};
+ghost use Rattle.std.specs.Prelude.{◌≡◌, IfOk, string_bytes, option_map};
 ghost use Rattle.std.specs.List.{list_all};
-ghost use Rattle.aud_parts.specs.ReportLines.{answer_in, ended_line, report_in, report_line, report_lines, report_of, report_of_lines, says_yes, totals};
+ghost use Rattle.aud_parts.specs.ReportLines.{answer_in, report_in, report_line, report_lines, report_of, report_of_lines, says_yes, totals};
 
 use crate::cut::{LentBytes, cut_at, pid_in, whole_lines};
 use aud_base::{Bytes, Listed};
@@ -23,19 +23,6 @@ impl<'a> Model for ReportLine<'a> {
     ghost Value = { ReportLine };
 
     ghost view = { λ l. record { pid = l.pid.now; is_yes = l.is_yes; text = l.text.now } };
-}
-
-impl<'a> ReportLine<'a> {
-    /// The same line.
-    pub(crate) fn again(&self) -> ReportLine<'a>
-        ensures { result ≡ self.now }
-    {
-        ReportLine {
-            pid: self.pid,
-            is_yes: self.is_yes,
-            text: self.text,
-        }
-    }
 }
 
 /// The answer that a line begins with.
@@ -132,22 +119,14 @@ pub(crate) fn report_in<'a>(
     }
 }
 
-/// Puts the line and a newline at the end.
-fn push_line(out: &mut Vec<u8>, line: &ReportLine<'_>) -> Result<(), AllocError>
-    ensures { OnOk result (out.new.items ≡ out.old.items ++ ended_line line.now) }
-{
-    out.extend_from_slice(line.text)?;
-    out.push(b'\n')?;
-    Ok(())
-}
-
 /// The report with these lines.
 pub(crate) fn report_of(alloc: Global, lines: &[ReportLine<'_>]) -> Result<Bytes, AllocError>
     ensures { IfOk result (λ text. text ≡ report_of lines.now) }
 {
     let mut out = Vec::new(alloc);
     for line in lines {
-        push_line(&mut out, line)?;
+        out.extend_from_slice(line.text)?;
+        out.push(b'\n')?;
     }
     let totals = totals(alloc, lines)?;
     out.extend_from_slice(totals.as_bytes())?;

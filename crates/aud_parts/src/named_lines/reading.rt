@@ -1,6 +1,6 @@
 //! The reading of the text that says from which lines of a recording those of a part come.
 ghost use Rattle.std.specs.Prelude.{◌≡◌, ◌+◌, IfOk, drop, option_map};
-ghost use Rattle.aud_parts.specs.NamedLines.{Gives, file_in, files_in, part_in, part_of, part_with, run_from, run_in, runs_in, size_in};
+ghost use Rattle.aud_parts.specs.NamedLines.{Gives, file_in, files_in, part_in, part_of, run_in, runs_in, size_in};
 
 use crate::cut::{LentBytes, cut_at, number_in, text_in, whole_lines};
 use crate::listing::reading::number_under;
@@ -19,10 +19,13 @@ fn size_in(line: &[u8]) -> Option<Size>
     Some(Size { lines, bytes })
 }
 
-/// So many lines from this one on.
-fn run_from(count: usize, first: usize) -> Option<LineRun>
-    ensures { result ≡ run_from count first }
+/// The run of a line.
+fn run_in(line: &[u8]) -> Option<LineRun>
+    ensures { result ≡ run_in line.now }
 {
+    let (count, first) = cut_at(b' ', line)?;
+    let count = number_in(count)?;
+    let first = number_in(first)?;
     if count < 1 || first < 1 {
         return None;
     }
@@ -30,14 +33,6 @@ fn run_from(count: usize, first: usize) -> Option<LineRun>
         count: count as u64,
         first: first as u64,
     })
-}
-
-/// The run of a line.
-fn run_in(line: &[u8]) -> Option<LineRun>
-    ensures { result ≡ run_in line.now }
-{
-    let (count, first) = cut_at(b' ', line)?;
-    run_from(number_in(count)?, number_in(first)?)
 }
 
 /// The file of a line: its name, borrowed, and how many lines it has.
@@ -78,18 +73,8 @@ fn files_in(alloc: Global, before: usize, lines: &[LentBytes<'_>]) -> Result<Inp
     Ok(files)
 }
 
-/// A part of this size with these runs and files.
-#[tactic(auto, unfolding(crate::specs::NamedLines::part_with))]
-fn part_with(size: Size, runs: LineRuns, files: InputFiles) -> Result<PartLines, LinesFault>
-    ensures { result ≡ part_with size runs files }
-{
-    if runs.count() != size.lines {
-        return Err(LinesFault::OtherCount);
-    }
-    Ok(PartLines { size, runs, files })
-}
-
 /// The part of the lines.
+#[tactic(auto, unfolding(crate::specs::NamedLines::part_with))]
 fn part_in(alloc: Global, lines: &[LentBytes<'_>]) -> Result<PartLines, LinesFault>
     ensures { Gives (λ part. part) result (part_in lines.now) }
 {
@@ -101,7 +86,11 @@ fn part_in(alloc: Global, lines: &[LentBytes<'_>]) -> Result<PartLines, LinesFau
     };
     let runs = runs_in(alloc, lines)?;
     let files = files_in(alloc, runs.len() + 1, lines)?;
-    part_with(size, LineRuns::new(runs), files)
+    let runs = LineRuns::new(runs);
+    if runs.count() != size.lines {
+        return Err(LinesFault::OtherCount);
+    }
+    Ok(PartLines { size, runs, files })
 }
 
 /// What a text says of a part, as [`lines_text`](crate::lines_text) writes it. `Memory` may come in place of each other

@@ -8,7 +8,7 @@ ghost use Rattle.aud_parts.specs.Private.OwnRecords.{has, is_for, passes_own};
 
 use crate::part::own_records::names_own;
 use crate::text_sets::{TextSet, has_any, put};
-use aud_tap::{NodeRec, NodeRecs, Records, StreamRec, Tap};
+use aud_tap::{NodeRec, Records, StreamRec, Tap};
 use std::alloc::{AllocError, Global};
 use std::collections::HashSet;
 use std::hash::RandomState;
@@ -55,24 +55,14 @@ impl Audience {
     {
         match &tap.records {
             Records::Stream(_) => Ok(()),
-            Records::Node(recs) => self.note_log(own, recs),
+            Records::Node(recs) => {
+                for number in 0..recs.len() {
+                    self.note_own(own, &recs[number])?;
+                }
+                Ok(())
+            }
             Records::Client(_) => Ok(()),
         }
-    }
-
-    /// Adds what the records tell of these sessions.
-    fn note_log(&mut self, own: &TextSet, recs: &NodeRecs) -> Result<(), AllocError>
-        ensures namespaces { OnOk result ((q : List ℕ) → has self.new.namespaces q
-            ≡ (has self.old.namespaces q
-            || list_any (passes_own (has own.now) (opens_nsp q)) recs.now)) }
-        ensures rooms { OnOk result ((q : List ℕ) → has self.new.rooms q
-            ≡ (has self.old.rooms q
-            || list_any (passes_own (has own.now) (grants q)) recs.now)) }
-    {
-        for number in 0..recs.len() {
-            self.note_own(own, &recs[number])?;
-        }
-        Ok(())
     }
 
     /// Adds the namespace in which the record opens a session, and the room that it grants, if it names one of these

@@ -1,5 +1,5 @@
 //! The records of the sessions of a part.
-ghost use Rattle.std.specs.Prelude.{◌≡◌, ◌∷◌, ◌++◌, [], IfOk, OnOk, filter, if◌then◌else◌};
+ghost use Rattle.std.specs.Prelude.{◌≡◌, IfOk, filter};
 ghost use Rattle.std.specs.List.{list_any};
 ghost use Rattle.aud_parts.specs.LeftOut.{keeps_record};
 ghost use Rattle.aud_parts.specs.Private.OwnRecords.{has, names_kept};
@@ -47,18 +47,10 @@ pub fn own_records(alloc: Global, own: &TextSet, recs: &NodeRecs) -> Result<Node
 {
     let mut left = NodeRecs::new(alloc);
     for number in 0..recs.len() {
-        keep_own(&mut left, own, &recs[number])?;
+        let rec = &recs[number];
+        if keeps_record(own, rec) {
+            left.push(copied_record(rec)?)?;
+        }
     }
     Ok(left)
-}
-
-/// Adds a copy of the record, if it names no session or one of these.
-fn keep_own(left: &mut NodeRecs, own: &TextSet, rec: &NodeRec) -> Result<(), AllocError>
-    ensures { OnOk result (left.new ≡ (if keeps_record (has own.now) rec.now
-        then left.old ++ rec.now ∷ [] else left.old)) }
-{
-    if !keeps_record(own, rec) {
-        return Ok(());
-    }
-    left.push(copied_record(rec)?)
 }

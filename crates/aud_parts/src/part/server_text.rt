@@ -2,7 +2,6 @@
 ghost use Rattle.std.specs.Prelude.{◌≡◌, ◌≢◌, ◌≤◌, ◌++◌, ℕ, List, false, length, map, position, Err, IfErr, IfOk, Ok, OnOk};
 ghost use Rattle.std.specs.List.{AllByRecursion};
 ghost use Rattle.std.specs.Str.{bytes_eq};
-ghost use Rattle.aud_base.specs.Lists.{between};
 ghost use Rattle.aud_input.specs.LineRuns.{lines_of_runs};
 ghost use Rattle.aud_reader.specs.Lines.{has_newline};
 ghost use Rattle.aud_writer.specs.WrittenBundle.{ended, line_texts, recs_of_taps, written_bundle};
@@ -40,15 +39,6 @@ fn after_lines(bytes: &[u8], count: usize) -> &[u8]
         }
     }
     left
-}
-
-/// The part of the text between two places; those past its end are its end.
-fn part_between(text: &[u8], from: usize, to: usize) -> &[u8]
-    ensures { result.now ≡ between text.now from to }
-{
-    let to = to.min(text.len());
-    let from = from.min(to);
-    &text[from..to]
 }
 
 /// The number of the tap of this name.
@@ -134,7 +124,11 @@ impl ServerText {
         ensures { result.now ≡ text_at self.now number }
     {
         match self.taps.get(number) {
-            Some(tap) => part_between(&self.text, tap.from, tap.to),
+            Some(tap) => {
+                let to = tap.to.min(self.text.len());
+                let from = tap.from.min(to);
+                &self.text[from..to]
+            }
             None => &[],
         }
     }

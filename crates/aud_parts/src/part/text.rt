@@ -52,31 +52,20 @@ impl<'a> Planned<'a> {
         }
     }
 
-    /// The pids of the part's sessions.
-    fn pids(&self, part: usize) -> Result<Vec<Text>, AllocError> {
+    /// The part's taps of the stream and of the nodes.
+    fn taps(&self, part: usize) -> Result<Taps, AllocError> {
+        let came = self.plan.came_in(self.alloc, self.clients, part)?;
         let mut pids = Vec::new(self.alloc);
         let borrowed = self.plan.pids_in(self.alloc, part)?;
         for pid in &borrowed {
             pids.push(Text::new(self.alloc, pid)?)?;
         }
-        Ok(pids)
-    }
-
-    /// The part's taps of the stream and of the nodes.
-    fn taps(&self, part: usize) -> Result<Taps, AllocError> {
-        let pids = self.pids(part)?;
-        let came = self.plan.came_in(self.alloc, self.clients, part)?;
         part_taps(self.alloc, self.logs, &pids, &came)
     }
 
-    /// The lines of the part's taps of the stream and of the nodes. Parts count from 0.
-    pub fn servers(&self, part: usize) -> Result<ServerText, ReadFault> {
-        let taps = self.taps(part)?;
-        ServerText::of(self.alloc, &taps, Vec::new(self.alloc))
-    }
-
-    /// The same, with the lines that they come from, where these are those of the logs' taps.
-    fn named_servers(&self, part: usize, lines: &[LineRuns]) -> Result<ServerText, ReadFault> {
+    /// The lines of the part's taps of the stream and of the nodes, and those that they come from, where these are those
+    /// of the logs' taps. Parts count from 0.
+    pub fn servers(&self, part: usize, lines: &[LineRuns]) -> Result<ServerText, ReadFault> {
         let taps = self.taps(part)?;
         let lines = server_lines(self.alloc, self.logs.taps(), lines, taps.as_slice())?;
         ServerText::of(self.alloc, &taps, lines)
@@ -96,7 +85,7 @@ impl<'a> Planned<'a> {
             threads,
             parts,
             |part: &usize| -> Result<Result<ServerText, ReadFault>, AllocError> {
-                Ok(self.named_servers(*part, lines))
+                Ok(self.servers(*part, lines))
             },
         )
     }
@@ -188,9 +177,8 @@ fn write_client<S: RunSource, W: Write>(
         ≡ lines_of_runs runs.old ++ (part_of_client files tap.now).numbers) }
     ensures source { S.files source.new ≡ S.files source.old }
 {
-    let header = client_header(alloc, tap.name())?;
-    write_out(output, header.as_slice())?;
-    let mut text = Vec::new(alloc);
+    let mut text = client_header(alloc, tap.name())?;
+    write_out(output, text.as_slice())?;
     // (the first line is the header)
     let mut skipped = 1usize;
     let mut left = RunLines::of(None, tap.runs());

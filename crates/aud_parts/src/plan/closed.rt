@@ -111,20 +111,15 @@ fn stays_whole(tap: &Tap, plan: &Plan) -> bool
 {
     match &tap.records {
         Records::Stream(_) => true,
-        Records::Node(recs) => is_log_whole(recs, plan),
+        Records::Node(recs) => {
+            if is_started(recs) {
+                return true;
+            }
+            let part = first_part(recs, plan);
+            names_only(recs, plan, part)
+        }
         Records::Client(_) => true,
     }
-}
-
-/// The same of this log.
-fn is_log_whole(recs: &NodeRecs, plan: &Plan) -> bool
-    ensures { result ≡ true → StaysWhole plan.now recs.now }
-{
-    if is_started(recs) {
-        return true;
-    }
-    let part = first_part(recs, plan);
-    names_only(recs, plan, part)
 }
 
 /// The part of the first session that the log names; the first part where it names none.

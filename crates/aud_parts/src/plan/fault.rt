@@ -3,7 +3,6 @@ ghost use Rattle.std.specs.Prelude.{◌≡◌};
 ghost use Rattle.aud_parts.specs.declared.plan.fault.PlanFault.TheVariants.{Memory};
 
 use std::alloc::{AllocError, AllocFailed};
-use std::fmt;
 use thiserror::Error;
 
 /// The most taps of clients in a bundle.
@@ -15,32 +14,18 @@ pub(crate) const MAX_SESSIONS: usize = 65_536;
 /// The most taps of nodes in a bundle.
 pub(crate) const MAX_NODE_TAPS: u32 = 64;
 
-/// A limit of a part: that of a bundle.
-#[derive(Clone, Copy, Debug, PartialEq, Eq, Drop)]
+/// A limit of a part, in words: that of a bundle.
+#[derive(Clone, Copy, Debug, PartialEq, Eq, Drop, Error)]
 pub enum Limit {
     /// A part has at most 4,096 taps of clients.
+    #[error("4,096 taps of clients")]
     Clients,
     /// A part has at most 65,536 sessions.
+    #[error("65,536 sessions")]
     Sessions,
     /// A part has at most 64 taps of nodes that name its sessions.
+    #[error("64 taps of nodes")]
     Nodes,
-}
-
-impl Limit {
-    /// What a part may have, in words.
-    fn words(self) -> &'static str {
-        match self {
-            Limit::Clients => "4,096 taps of clients",
-            Limit::Sessions => "65,536 sessions",
-            Limit::Nodes => "64 taps of nodes",
-        }
-    }
-}
-
-impl fmt::Display for Limit {
-    fn fmt<W: fmt::Write>(&self, f: &mut fmt::Formatter<W>) -> fmt::Result {
-        f.write_str(self.words())
-    }
 }
 
 /// Why there is no plan. Sessions that one part has to have together are named by the first of them.

@@ -75,13 +75,9 @@ fn add_bits(words: &mut Vec<u64>, number: usize, bits: u64) -> Result<(), AllocE
 fn count_both(words: &[u64], others: &[u64]) -> u32 {
     let mut count = 0u32;
     for number in 0..words.len().max(others.len()) {
-        let both = word_at(words, number) | word_at(others, number);
-        count = count.saturating_add(both.count_ones());
+        let word = words.get(number).copied().unwrap_or(0);
+        let other = others.get(number).copied().unwrap_or(0);
+        count = count.saturating_add((word | other).count_ones());
     }
     count
-}
-
-/// The word with this number; no bits past the last one.
-fn word_at(words: &[u64], number: usize) -> u64 {
-    words.get(number).copied().unwrap_or(0)
 }

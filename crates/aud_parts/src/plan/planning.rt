@@ -36,8 +36,11 @@ pub fn plan_parts(
     ensures few { IfOk result (λ plan. vec_len plan.weights ≤ max most 1) }
 {
     let sessions = Sessions::of(alloc, logs, clients)?;
-    let Placed { parts, weights } = place_sessions(alloc, logs.taps(), clients, &sessions, most)?;
-    let clients_in = parts_of_clients(alloc, clients, &sessions, &parts)?;
+    let Placed {
+        parts,
+        clients_in,
+        weights,
+    } = place_sessions(alloc, logs.taps(), clients, &sessions, most)?;
     let plan = Plan {
         sessions,
         parts,
@@ -56,6 +59,8 @@ pub fn plan_parts(
 struct Placed {
     /// Of each session, the part of its unit.
     parts: Vec<usize>,
+    /// Of each client's tap, the part of its sessions.
+    clients_in: Vec<Option<usize>>,
     /// How heavy each part is.
     weights: Vec<u64>,
 }
@@ -73,12 +78,17 @@ fn place_sessions(
 {
     let mut units = units_of(alloc, taps, clients, sessions)?;
     let weights = place_units(alloc, sessions, &mut units.all, most)?;
-    let parts = parts_of_sessions(alloc, &units)?;
-    Ok(Placed { parts, weights })
+    let parts = parts_of_sessions(alloc, units)?;
+    let clients_in = parts_of_clients(alloc, clients, sessions, &parts)?;
+    Ok(Placed {
+        parts,
+        clients_in,
+        weights,
+    })
 }
 
 /// Of each session, the part of its unit.
-fn parts_of_sessions(alloc: Global, units: &Units) -> Result<Vec<usize>, AllocError> {
+fn parts_of_sessions(alloc: Global, units: Units) -> Result<Vec<usize>, AllocError> {
     let mut parts = Vec::with_capacity(alloc, units.of_sessions.len())?;
     for number in &units.of_sessions {
         let part = match units.all.get(*number) {

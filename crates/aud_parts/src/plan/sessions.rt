@@ -1,11 +1,10 @@
 //! The sessions of a recording, in the order of its report.
-ghost use Rattle.std.specs.Prelude.{◌≡◌, ◌<◌, [], IfOk, OnOk, Some, length, slice_get};
-ghost use Rattle.aud_base.specs.FirstTexts.{first_texts, with_text, with_texts};
+ghost use Rattle.std.specs.Prelude.{◌≡◌, ◌<◌, IfOk, OnOk, Some, length, slice_get};
+ghost use Rattle.aud_base.specs.FirstTexts.{first_texts, with_text};
 ghost use Rattle.aud_parts.specs.Plan.{all_mentions, number_of};
 
 use crate::clients::measured::MeasuredClient;
 use aud_node::Logs;
-use aud_tap::Text;
 use indexmap::IndexSet;
 use std::alloc::{AllocError, Global};
 use std::hash::RandomState;
@@ -38,24 +37,19 @@ impl Sessions {
         ensures { IfOk result (λ sessions. sessions
             ≡ first_texts (all_mentions logs.now.taps clients.now)) }
     {
-        let mut sessions = Sessions::none(alloc, logs.keys());
+        let mut sessions = Sessions {
+            alloc,
+            pids: IndexSet::with_hasher(alloc, logs.keys()),
+        };
         for number in 0..logs.named_count() {
             sessions.mention(logs.named_pid(number))?;
         }
         for client in clients {
-            sessions.mention_all(client.facts.pids.as_slice())?;
+            for pid in client.facts.pids.as_slice() {
+                sessions.mention(pid.as_str())?;
+            }
         }
         Ok(sessions)
-    }
-
-    /// No session yet; the pids will be hashed with these keys.
-    fn none(alloc: Global, keys: RandomState) -> Sessions
-        ensures { result ≡ [] }
-    {
-        Sessions {
-            alloc,
-            pids: IndexSet::with_hasher(alloc, keys),
-        }
     }
 
     /// How many sessions there are.
@@ -100,16 +94,6 @@ impl Sessions {
         }
         let owned = String::from_str(self.alloc, pid)?;
         self.pids.insert(owned)?;
-        Ok(())
-    }
-
-    /// The sessions are mentioned, one after another.
-    fn mention_all(&mut self, pids: &[Text]) -> Result<(), AllocError>
-        ensures { OnOk result (self.new ≡ with_texts self.old pids.now) }
-    {
-        for pid in pids {
-            self.mention(pid.as_str())?;
-        }
         Ok(())
     }
 }

@@ -85,7 +85,7 @@ fn larger_part(
         } else {
             number
         };
-        let bytes = planned.bytes(part, &planned.servers(part)?);
+        let bytes = planned.bytes(part, &planned.servers(part, &[])?);
         if bytes > most {
             return Ok(Some(Measured { part, bytes }));
         }

@@ -1,6 +1,6 @@
 //! Sessions that one part has to have together.
 ghost use Rattle.std.specs.Prelude.{◌≡◌};
-ghost use Rattle.aud_parts.specs.LeftOut.{is_start, is_started};
+ghost use Rattle.aud_parts.specs.LeftOut.{is_started};
 
 use crate::clients::measured::MeasuredClient;
 use crate::plan::groups::Groups;
@@ -66,20 +66,18 @@ fn join_clients(clients: &[MeasuredClient], sessions: &Sessions, groups: &mut Gr
 /// Joins the sessions of each log that doesn't begin with a `start`.
 fn join_logs(taps: &[Tap], sessions: &Sessions, groups: &mut Groups) {
     for tap in taps {
-        if let Records::Node(recs) = &tap.records {
-            if !is_started(recs) {
-                join_log(recs, sessions, groups);
-            }
+        let Records::Node(recs) = &tap.records else {
+            continue;
+        };
+        if is_started(recs) {
+            continue;
         }
-    }
-}
-
-fn join_log(recs: &NodeRecs, sessions: &Sessions, groups: &mut Groups) {
-    let mut last: Option<usize> = None;
-    for number in 0..recs.len() {
-        if let Some(next) = named_by(&recs[number], sessions) {
-            groups.join(last.unwrap_or(next), next);
-            last = Some(next);
+        let mut last: Option<usize> = None;
+        for number in 0..recs.len() {
+            if let Some(next) = named_by(&recs[number], sessions) {
+                groups.join(last.unwrap_or(next), next);
+                last = Some(next);
+            }
         }
     }
 }
@@ -89,16 +87,9 @@ pub(crate) fn is_started(recs: &NodeRecs) -> bool
     ensures { result ≡ is_started recs.now }
 {
     match recs.get(0) {
-        Some(rec) => is_start(rec),
+        Some(rec) => matches!(rec, NodeRec::Start { .. }),
         None => true,
     }
-}
-
-/// Whether the record is a `start`.
-fn is_start(rec: &NodeRec) -> bool
-    ensures { result ≡ is_start rec.now }
-{
-    matches!(rec, NodeRec::Start { .. })
 }
 
 /// The number of the session that the record names.
@@ -171,23 +162,14 @@ impl Units {
     /// The records of the nodes' taps belong to the units of the sessions that they name.
     fn add_taps(&mut self, taps: &[Tap], sessions: &Sessions) -> Result<(), AllocError> {
         for (place, tap) in taps.iter().enumerate() {
-            if let Records::Node(recs) = &tap.records {
-                self.add_log(recs, sessions, place)?;
-            }
-        }
-        Ok(())
-    }
-
-    fn add_log(
-        &mut self,
-        recs: &NodeRecs,
-        sessions: &Sessions,
-        place: usize,
-    ) -> Result<(), AllocError> {
-        for number in 0..recs.len() {
-            if let Some(load) = self.load_of(named_by(&recs[number], sessions)) {
-                load.weight = load.weight.saturating_add(RECORD_WEIGHT);
-                load.add_node(place)?;
+            let Records::Node(recs) = &tap.records else {
+                continue;
+            };
+            for number in 0..recs.len() {
+                if let Some(load) = self.load_of(named_by(&recs[number], sessions)) {
+                    load.weight = load.weight.saturating_add(RECORD_WEIGHT);
+                    load.add_node(place)?;
+                }
             }
         }
         Ok(())

@@ -90,11 +90,14 @@ pub fn client_header(alloc: Global, name: &str) -> Result<Vec<u8>, AllocError>
     requires { IsTrue (is_tap_name name.now) }
     ensures { IfOk result (λ line. line.items ≡ line_text name.now (Header Client Two) ++ 10 ∷ []) }
 {
-    let header = Rec::Header {
-        of: TapKind::Client,
-        v: Version::Two,
-    };
-    let Ok(mut line) = write_line(alloc, name, &header) else {
+    let Ok(mut line) = write_line(
+        alloc,
+        name,
+        &Rec::Header {
+            of: TapKind::Client,
+            v: Version::Two,
+        },
+    ) else {
         return Err(AllocError);
     };
     line.push(b'\n')?;

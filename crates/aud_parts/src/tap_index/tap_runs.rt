@@ -65,17 +65,6 @@ fn push_run(runs: &mut Vec<Run>, line: Run, goes_on: bool) -> Result<(), AllocEr
 }
 
 impl TapRuns {
-    /// A tap of one line.
-    fn new(alloc: Global, name: &str, line: Run) -> Result<TapRuns, AllocError>
-        requires { IsTrue (is_tap_name name.now) }
-        ensures { IfOk result (λ tap. tap ≡ record { name = name.now; runs = line ∷ [] }) }
-    {
-        let name = Text::new(alloc, name)?;
-        let mut runs = Vec::new(alloc);
-        runs.push(line)?;
-        Ok(TapRuns { name, runs })
-    }
-
     pub fn name(&self) -> &str
         ensures value { result.now ≡ self.now.name }
         ensures form { IsTrue (is_tap_name result.now) }
@@ -164,8 +153,10 @@ impl RunsByTap {
     {
         let place = self.taps.len();
         self.places.note(place, name)?;
-        let tap = TapRuns::new(self.alloc, name, line)?;
-        self.taps.push(tap)?;
+        let name = Text::new(self.alloc, name)?;
+        let mut runs = Vec::new(self.alloc);
+        runs.push(line)?;
+        self.taps.push(TapRuns { name, runs })?;
         self.last = place;
         Ok(())
     }

@@ -1,7 +1,8 @@
-use Rattle.std.proofs.Common.{◌≡◌, ◌∙◌, List, ap}
+use Rattle.std.proofs.Common.{◌≡◌, ◌∙◌, ap, map}
 use Rattle.std.proofs.lemmas.Result.{IfOk-weaker}
-use Rattle.aud_tap.specs.declared.taps.Tap.{Tap}
-use Rattle.aud_upgrade.specs.Upgraded.{with_runs}
+use Rattle.aud_node.specs.Cluster.{Cluster}
+use Rattle.aud_upgrade.specs.declared.joins.Joins.TheVariants.{TakeAndTakes}
+use Rattle.aud_upgrade.specs.Upgraded.{upgraded_tap, with_runs}
 use Rattle.aud_parts.specs.PartTaps.{part_taps, IsPartOfEach}
 use Rattle.aud_parts.proofs.WholeLemmas.{part-of_each}
 use Rattle.aud_parts.proofs.part.part_taps.Goals as goal
@@ -11,8 +12,8 @@ returns c =
     let pids = c.args.pids.now in
     let came = c.args.came.now in
     let logs = c.args.logs.now in
-    let is : (part : List Tap) → part ≡ with_runs c.in_ok-left.left → part ≡ part_taps pids came logs = λ part made. made ∙ ap with_runs c.in_ok-left.ensures in
+    let all = ap (λ (whole : Cluster). map (upgraded_tap TakeAndTakes whole.stream) whole.taps) c.in_ok-whole.ensures ∙ ap with_runs c.in_ok-left.ensures in
     record {
-      taps = IfOk-weaker c.taps_with_runs.result (λ part. part ≡ with_runs c.in_ok-left.left) (λ part. part ≡ part_taps pids came logs) is c.taps_with_runs.ensures;
-      part = IfOk-weaker c.taps_with_runs.result (λ part. part ≡ with_runs c.in_ok-left.left) (IsPartOfEach pids came logs) (λ part made. part-of_each pids came logs part (is part made)) c.taps_with_runs.ensures;
+      taps = IfOk-weaker c.upgrade.result _ (λ part. part ≡ part_taps pids came logs) (λ part made. made ∙ all) c.upgrade.ensures;
+      part = IfOk-weaker c.upgrade.result _ (IsPartOfEach pids came logs) (λ part made. part-of_each pids came logs part (made ∙ all)) c.upgrade.ensures;
     }

@@ -1,5 +1,5 @@
 use Rattle.aud_parts.specs.ServerLines.{HasLinesOf, NamesLines}
-use Rattle.aud_parts.proofs.ServerLinesLemmas.{each-more}
+use Rattle.aud_parts.proofs.ListSteps.{each-more}
 use Rattle.aud_parts.proofs.part.lines.server_lines.Goals as goal
 
 pub loop-tap-preserved : goal.loop-tap-preserved

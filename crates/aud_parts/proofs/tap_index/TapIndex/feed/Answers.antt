@@ -1,7 +1,8 @@
-use Rattle.std.proofs.Common.{◌++◌}
+use Rattle.std.proofs.Common.{◌++◌, length}
 use Rattle.std.proofs.lemmas.Result.{on_ok_weaker}
-use Rattle.aud_parts.specs.IndexSoFar.{IsCounted, ReadSoFar}
-use Rattle.aud_parts.proofs.IndexLemmas.{counted-front, counted-left, counted-line, fed-all, fed-line, fed-none, on_ok_later}
+use Rattle.aud_parts.specs.declared.tap_index.TapIndex.{TapIndex}
+use Rattle.aud_parts.specs.IndexSoFar.{IsCounted, ReadSoFar, all_ended}
+use Rattle.aud_parts.proofs.IndexLemmas.{counted-front, counted-left, counted-line, counted-text, fed-all, fed-line, fed-none, on_ok_later, read-front}
 use Rattle.aud_parts.proofs.tap_index.TapIndex.feed.Goals as goal
 
 pub lines-init : goal.lines-init
@@ -20,10 +21,14 @@ lines-preserved c = λ files bytes has counted.
 
 pub returns : goal.returns
 returns c = λ files bytes has.
-    on_ok_later (IsCounted files (bytes ++ c.args.piece.now)) (ReadSoFar c.add_front.new.self files (bytes ++ c.args.piece.now)) c.add_front.result
+    let s = c.lines.self in
+    let now : TapIndex = record s { begun = c.add.new.self } in
+    on_ok_later (IsCounted files (bytes ++ c.args.piece.now)) (ReadSoFar now files (bytes ++ c.args.piece.now)) c.add.result
     (λ counted.
     let piece = c.args.piece.now in
     let left = c.lines.left.now in
     let f = c.lines.invariant files bytes has counted in
-    on_ok_weaker c.add_front.result (fed-all c.lines.self c.add_front.new.self files bytes piece left f)
-    (c.add_front.ensures files (bytes ++ f.done) c.in_default.ensures.none (counted-left files bytes piece f.done left counted f.cut) f.read))
+    let read = f.read in
+    on_ok_weaker c.add.result
+    (λ begun. fed-all s now files bytes piece left f (read-front s c.add.new.self files (bytes ++ f.done) left c.in_default.ensures.none read begun))
+    (c.add.ensures (length (all_ended read.lines)) read.text (counted-text s files (bytes ++ f.done) left (counted-left files bytes piece f.done left counted f.cut) read) read.begun))

@@ -4,7 +4,7 @@ use Rattle.aud_tap.specs.declared.taps.Tap.{Tap}
 use Rattle.aud_node.specs.Cluster.{node_recs}
 use Rattle.aud_parts.specs.Part.{opens_nsp, grants}
 use Rattle.aud_parts.specs.Private.OwnRecords.{has, passes_own}
-use Rattle.aud_parts.proofs.ListLemmas.{any-item}
+use Rattle.aud_parts.proofs.ListSteps.{any-item}
 use Rattle.aud_parts.proofs.part.audience.Audience.build.Goals as goal
 
 pub loop-tap-preserved : goal.loop-tap-preserved

@@ -1,6 +1,6 @@
 use Rattle.std.proofs.Common.{◌≡◌, ◌∙◌, [], ap, sym, take, arith}
 use Rattle.std.specs.List.{flat_map}
-use Rattle.std.proofs.lemmas.List.{take_all}
+use Rattle.std.proofs.lemmas.List.{drop_all, take_all}
 use Rattle.std.proofs.lemmas.Option.{get_or_from_slice_get}
 use Rattle.aud_base.specs.FirstTexts.{with_text, with_texts}
 use Rattle.aud_base.proofs.FirstTexts.{first-texts, with_texts-append, with_texts-more, with_texts-once, with_texts-one}
@@ -29,8 +29,9 @@ loop-client-preserved c =
     let l = c.loop-client in
     let clients = c.args.clients.now in
     let client = c.client-item.result in
-    c.in_ok-mention_all.ensures
-    ∙ ap (λ pids. with_texts l.sessions pids) c.as_slice.ensures
+    let pids = c.as_slice-pid-items.result.now in
+    sym (ap (with_texts c.loop-pid.sessions) (drop_all c.loop-pid.pid-index pids c.loop-pid-test.false)) ∙ c.loop-pid.invariant
+    ∙ ap (λ pids. with_texts l.sessions pids) c.as_slice-pid-items.ensures
     ∙ ap (λ ts. with_texts ts (client_pids client)) l.invariant
     ∙ with_texts-more clients l.client-index client (omega arith) c.client-item.is client_pids (with_texts [] (flat_map node_pids c.args.logs.now.taps))
 

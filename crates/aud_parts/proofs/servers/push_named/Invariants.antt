@@ -1,5 +1,5 @@
 use Rattle.std.proofs.Common.{◌≡◌, ◌++◌, take}
-use Rattle.aud_parts.proofs.servers.push_records.Given as goal
+use Rattle.aud_parts.proofs.servers.push_named.Given as goal
 
 -- those so far
 abbrev pub invariant-loop-number : goal.invariant-loop-number

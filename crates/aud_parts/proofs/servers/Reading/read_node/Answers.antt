@@ -4,10 +4,12 @@ use Rattle.aud_input.specs.LineRuns.{lines_of_runs}
 use Rattle.aud_reader.specs.declared.line.Line.{Line}
 use Rattle.aud_reader.specs.OwnLines.{records_for}
 use Rattle.aud_tap.specs.declared.records.Rec.TheVariants as rec
+use Rattle.aud_tap.specs.declared.taps.Records.TheVariants as records
+use Rattle.aud_tap.specs.declared.taps.Tap.{Tap}
 use Rattle.aud_parts.specs.ServersRead.{header_for}
-use Rattle.aud_parts.proofs.ServersLemmas.{log-on, log-own, no-some}
+use Rattle.aud_parts.proofs.ServersLemmas.{added, log-on, log-own, no-some}
 use Rattle.aud_parts.proofs.TapReadingLemmas.{none-left}
-use Rattle.aud_parts.proofs.servers.read_node.Goals as goal
+use Rattle.aud_parts.proofs.servers.Reading.read_node.Goals as goal
 
 pub pieces-preserved : goal.pieces-preserved
 pieces-preserved g c = record {
@@ -33,9 +35,10 @@ pieces-preserved g c = record {
 }
 
 pub returns-clause-read : goal.returns-clause-read
-returns-clause-read g c = λ files known may header node.
+returns-clause-read g c = λ files known may header node none.
     let tap = c.args.tap.now in
     let r = c.pieces.invariant.read files known may header node in
-    let none = none-left _ _ c.in_ok-lines.field-0 c.in_default.not-Some (c.in_ok-lines.ensures.lines files (c.pieces.invariant.source ∙ known) r.0) in
-    let own = log-own files tap c.pieces.left c.pieces.skipped c.pieces.log c.pieces.runs c.args.header.now.line _ r.1 none header.first (header.says ∙ ap (λ of. Some (of, c.args.header.now.version)) node) (c.in_ok-name.ensures ∙ c.name-2.ensures.value) refl in
-    record { own = own.0; numbers = own.1 }
+    let all = none-left _ _ c.in_ok-lines.field-0 c.in_default.not-Some (c.in_ok-lines.ensures.lines files (c.pieces.invariant.source ∙ known) r.0) in
+    let made : Tap = record { name = c.in_ok-name.name; version = c.args.header.now.version; records = records.Node c.pieces.log } in
+    let own = log-own files tap c.pieces.left c.pieces.skipped c.pieces.log c.pieces.runs c.args.header.now.line made r.1 all header.first (header.says ∙ ap (λ of. Some (of, c.args.header.now.version)) node) (c.in_ok-name.ensures ∙ c.name-2.ensures.value) refl in
+    added files tap c.args.self.now c.add.new.self made c.pieces.runs own.0 own.1 c.in_ok-add.ensures.taps c.in_ok-add.ensures.lines c.in_ok-add.ensures.kinds

@@ -3,7 +3,7 @@ use Rattle.std.specs.List.{list_any}
 use Rattle.aud_node.specs.Stream.{Text}
 use Rattle.aud_parts.specs.Part.{opens_nsp, grants}
 use Rattle.aud_parts.specs.Private.OwnRecords.{has, passes_own}
-use Rattle.aud_parts.proofs.part.audience.Audience.note_log.Given as goal
+use Rattle.aud_parts.proofs.part.audience.Audience.note_tap.Given as goal
 
 -- what the records so far tell is added
 abbrev pub invariant-loop-number : goal.invariant-loop-number

@@ -4,7 +4,7 @@ use Rattle.aud_tap.specs.declared.records.TapKind.TheVariants as kind
 use Rattle.aud_parts.specs.TapRuns.{IsReadable, MayBeRead}
 use Rattle.aud_parts.specs.Private.RunSteps.{runs_size}
 use Rattle.aud_parts.specs.Private.ServerSteps.{IsHeaderOf, IsLogRead}
-use Rattle.aud_parts.proofs.servers.read_node.Given as goal
+use Rattle.aud_parts.proofs.servers.Reading.read_node.Given as goal
 
 -- the lines before those that are left were read
 abbrev pub invariant-pieces : goal.invariant-pieces
