@@ -110,14 +110,6 @@ fn rooms_excess(member: Member, key: &str, d: &Fields<'_>) -> Option<Excess>
     items_excess(member, MAX_ROOM, items)
 }
 
-fn attachments_excess(member: Member, key: &str, d: &Fields<'_>) -> Option<Excess>
-    ensures { result ≡ option_and_then (count_excess member MAX_ATTACHMENTS) (list_at key.now
-        (view d.now)) }
-{
-    let items = d.get(key)?.as_list()?;
-    count_excess(member, MAX_ATTACHMENTS, items)
-}
-
 fn number_excess(member: Member, most: u64, number: Option<u64>) -> Option<Excess>
     ensures { result ≡ number_excess member most number }
 {
@@ -143,7 +135,7 @@ fn excess_of(member: Member, d: &Fields<'_>) -> Option<Excess>
         Member::Pid | Member::Sid => length_excess(member, MAX_ID, text_at(key, d)),
         Member::Room => length_excess(member, MAX_ROOM, text_at(key, d)),
         Member::Rooms | Member::Except => rooms_excess(member, key, d),
-        Member::Bin => attachments_excess(member, key, d),
+        Member::Bin => count_excess(member, MAX_ATTACHMENTS, d.get(key)?.as_list()?),
         Member::Turn => number_excess(member, MAX_TURN, number_at(key, d)),
         Member::Kind
         | Member::Version

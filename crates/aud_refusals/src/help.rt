@@ -89,13 +89,12 @@ fn push_help(
 /// What is said of a line, beside its refusal: a sentence or two, each with its newline; or nothing, where the line is
 /// not one that is refused so.
 ///
-/// - Of a field the first that is missing, or not of its type or form, in the order in which a reader looks at them; of
-/// a
-///   client's record whose fields are all good, why it may not follow those before it.
-/// - Of a limit the first field that is outside its own, what it has, and the limit; or where all are within, how many
-/// taps,
-///   records, entries or pids there may be.
-/// - Of JSON up to which byte it is UTF-8, with what it does not begin or end, or what is wrong in between ([`NoJson`](crate::NoJson)).
+/// - Of a field the first that is missing, or not of its type or form, in the order in which a reader looks
+///   at them; of a client's record whose fields are all good, why it may not follow those before it.
+/// - Of a limit the first field that is outside its own, what it has, and the limit; or where all are within,
+///   how many taps, records, entries or pids there may be.
+/// - Of JSON up to which byte it is UTF-8, with what it does not begin or end, or what is wrong in between
+///   ([`NoJson`](crate::NoJson)).
 /// - Of a name the first byte that cannot stand in one, or how many there are.
 /// - `first_header` is the line of the header that stands already: that of the line's tap, and for
 ///   [`SecondStream`](InputCode::SecondStream) that of the stream.

@@ -2,7 +2,7 @@
 ghost use Rattle.std.specs.Prelude.{◌≡◌, ◌++◌, OnOk, option_map, string_bytes};
 ghost use Rattle.aud_json.specs.View.{view};
 ghost use Rattle.aud_reader.specs.Record.{tap_of_kind};
-ghost use Rattle.aud_refusals.specs.KindHelp.{first_help, header_text, kind_help, nodes_text, offset_help, offset_text, owner_text, second_help, unknown_text, version_help};
+ghost use Rattle.aud_refusals.specs.KindHelp.{first_help, header_text, kind_help, offset_help, offset_text, owner_text, second_help, unknown_text, version_help};
 
 use crate::member::{number_at, text_at};
 use aud_json::Fields;
@@ -21,17 +21,6 @@ pub fn push_header(out: &mut String, header: Option<u64>) -> Result<(), AllocErr
     }
 }
 
-/// The taps of nodes that have records of this kind.
-fn nodes_text(kind: &str) -> &'static str
-    ensures { result.now ≡ nodes_text kind.now }
-{
-    if kind == "takes" {
-        "Records of this kind stand in the taps of nodes that are written in version 2.\n"
-    } else {
-        "Records of this kind stand in the taps of nodes.\n"
-    }
-}
-
 /// The taps that have records of this kind.
 fn owner_text(kind: &str) -> &'static str
     ensures { result.now ≡ owner_text kind.now (tap_of_kind kind.now) }
@@ -39,7 +28,10 @@ fn owner_text(kind: &str) -> &'static str
     match tap_of_kind(kind) {
         None => "No tap has records of this kind.\n",
         Some(TapKind::Stream) => "Records of this kind stand in the tap of the stream.\n",
-        Some(TapKind::Node) => nodes_text(kind),
+        Some(TapKind::Node) if kind == "takes" => {
+            "Records of this kind stand in the taps of nodes that are written in version 2.\n"
+        }
+        Some(TapKind::Node) => "Records of this kind stand in the taps of nodes.\n",
         Some(TapKind::Client) => "Records of this kind stand in the taps of clients.\n",
     }
 }

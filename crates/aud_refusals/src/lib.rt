@@ -13,7 +13,8 @@
 //! ```
 //!
 //! [`no_packet_at`] says why a record of a client's tap is no packet: the decoder's refusal of it, where its payload is
-//! refused what is wrong with that, and of which packet of a polling body. [`aud_client::Transcript`] has the number of the first such record.
+//! refused what is wrong with that, and of which packet of a polling body. [`aud_client::Transcript`] has the number of
+//! the first such record.
 //!
 //! ```
 //! use aud_refusals::no_packet_at;

@@ -1,8 +1,7 @@
 //! Help on a line of which a length, a number or a count is outside its limits.
-ghost use Rattle.std.specs.Prelude.{◌≡◌, ◌++◌, codes, OnOk, string_bytes};
+ghost use Rattle.std.specs.Prelude.{◌≡◌, ◌++◌, OnOk, string_bytes};
 ghost use Rattle.aud_json.specs.View.{view};
-ghost use Rattle.aud_tap.specs.Json.{text_at};
-ghost use Rattle.aud_refusals.specs.LimitHelp.{at_most_text, count_text, excess_text, item_text, kind_named, length_text, limit_help, node_text, records_text, taps_text};
+ghost use Rattle.aud_refusals.specs.LimitHelp.{at_most_text, count_text, excess_text, item_text, length_text, limit_help, node_text, records_text, taps_text};
 
 use crate::excess::{Excess, first_excess};
 use crate::member::{Member, text_at};
@@ -128,19 +127,16 @@ fn push_records(out: &mut String, of: Option<TapKind>) -> Result<(), AllocError>
     }
 }
 
-/// The kind of tap that a header names.
-fn kind_named(d: &Fields<'_>) -> Option<TapKind>
-    ensures { result ≡ kind_named (text_at (codes "of") (view d.now)) }
-{
-    tap_kind(text_at("of", d)?)
-}
-
 fn push_count(out: &mut String, kind: &str, d: &Fields<'_>) -> Result<(), AllocError>
     ensures { OnOk result (string_bytes out.new
         ≡ string_bytes out.old ++ count_text kind.now (view d.now)) }
 {
     if kind == "tap" {
-        push_taps(out, kind_named(d))
+        let of = match text_at("of", d) {
+            Some(of) => tap_kind(of),
+            None => None,
+        };
+        push_taps(out, of)
     } else {
         push_records(out, tap_of_kind(kind))
     }

@@ -75,18 +75,6 @@ pub fn number_at(key: &str, d: &Fields<'_>) -> Option<u64>
     d.get(key).and_then(Field::as_u64)
 }
 
-fn has_text(key: &str, d: &Fields<'_>) -> bool
-    ensures { result ≡ is_some (text_at key.now (view d.now)) }
-{
-    text_at(key, d).is_some()
-}
-
-fn has_number(key: &str, d: &Fields<'_>) -> bool
-    ensures { result ≡ is_some (number_at key.now (view d.now)) }
-{
-    number_at(key, d).is_some()
-}
-
 fn has_id(key: &str, d: &Fields<'_>) -> bool
     ensures { result ≡ is_some (id_at key.now (view d.now)) }
 {
@@ -147,20 +135,11 @@ fn is_blob_item(alloc: Global, item: Option<&str>) -> Result<bool, AllocError>
     }
 }
 
-fn is_blob(alloc: Global, field: &Field<'_>) -> Result<bool, AllocError>
-    ensures { IfOk result (λ is. is ≡ is_some (as_blob (field_view field.now))) }
-{
-    match field.as_str() {
-        Some(text) => is_base64(alloc, text),
-        None => Ok(false),
-    }
-}
-
 fn has_bytes(alloc: Global, key: &str, d: &Fields<'_>) -> Result<bool, AllocError>
     ensures { IfOk result (λ is. is ≡ is_some (bytes_at key.now (view d.now))) }
 {
-    match d.get(key) {
-        Some(field) => is_blob(alloc, field),
+    match text_at(key, d) {
+        Some(text) => is_base64(alloc, text),
         None => Ok(false),
     }
 }
@@ -220,9 +199,9 @@ pub fn is_formed(alloc: Global, member: Member, d: &Fields<'_>) -> Result<bool, 
     let key = member.key();
     match member {
         Member::Kind | Member::Of | Member::Text | Member::Room | Member::Message => {
-            Ok(has_text(key, d))
+            Ok(text_at(key, d).is_some())
         }
-        Member::Version | Member::Turn | Member::Connection => Ok(has_number(key, d)),
+        Member::Version | Member::Turn | Member::Connection => Ok(number_at(key, d).is_some()),
         Member::Off | Member::Pid | Member::Sid => Ok(has_id(key, d)),
         Member::OffOrNull => Ok(has_id_or_null(key, d)),
         Member::Nsp => Ok(has_namespace(key, d)),

@@ -1,9 +1,8 @@
 //! Why a text is no JSON that is read.
-ghost use Rattle.std.specs.Prelude.{◌≡◌, ◌++◌, ◌≤◌, IfOk, OnOk, if◌then◌else◌, length, map, slice_index, string_bytes};
+ghost use Rattle.std.specs.Prelude.{◌≡◌, ◌++◌, ◌≤◌, IfOk, OnOk, length, map, string_bytes};
 ghost use Rattle.json.specs.Lex.{tokens};
 ghost use Rattle.json.specs.Reads.{token_of};
-ghost use Rattle.aud_refusals.specs.NoJson.{bytes_front, depth_after, depth_of, fault_in, is_good, is_json, no_d, no_json, no_json_text, place_of, read_from, text_fault, token_fault, token_front, tokens_front};
-ghost use Rattle.aud_refusals.specs.declared.no_json.Front.TheVariants.{Good, Huge};
+ghost use Rattle.aud_refusals.specs.NoJson.{bytes_front, depth_after, depth_of, fault_in, is_json, no_d, no_json, no_json_text, place_of, read_from, token_fault, token_front, tokens_front};
 
 use crate::opened::fields_of;
 use crate::token_place::begin_of_token;
@@ -85,30 +84,17 @@ pub enum Front {
     Bad,
 }
 
-fn is_good(front: Front) -> bool
-    ensures { result ≡ is_good front }
-{
-    match front {
-        Front::Good => true,
-        Front::End | Front::Huge | Front::Bad => false,
-    }
-}
-
-fn number_front(alloc: Global, text: &str) -> Result<Front, AllocError>
-    ensures { IfOk result (λ front. front ≡ (if is_json text.now then Good else Huge)) }
-{
-    if is_json(alloc, text.as_bytes())? {
-        Ok(Front::Good)
-    } else {
-        Ok(Front::Huge)
-    }
-}
-
 fn token_front(alloc: Global, token: &Token<'_>) -> Result<Front, AllocError>
     ensures { IfOk result (λ front. front ≡ token_front (token_of token.now)) }
 {
     match token {
-        Token::Number(text) => number_front(alloc, text),
+        Token::Number(text) => {
+            if is_json(alloc, text.as_bytes())? {
+                Ok(Front::Good)
+            } else {
+                Ok(Front::Huge)
+            }
+        }
         Token::Bad => Ok(Front::Bad),
         Token::BeginObject
         | Token::EndObject
@@ -129,10 +115,10 @@ fn tokens_read(alloc: Global, text: &str) -> Result<usize, AllocError>
     let mut reader = Reader::new(text, &mut scratch)?;
     let mut count = 0usize;
     'tokens: while let Some(token) = reader.next() {
-        if !is_good(token_front(alloc, &token)?) {
-            return Ok(count);
+        match token_front(alloc, &token)? {
+            Front::Good => count = count.saturating_add(1),
+            Front::End | Front::Huge | Front::Bad => return Ok(count),
         }
-        count = count.saturating_add(1);
     }
     Ok(count)
 }
@@ -186,34 +172,18 @@ fn without_d(alloc: Global, bytes: &[u8]) -> Result<Vec<u8>, AllocError>
     Ok(out)
 }
 
-/// The first byte, or 0 where there is none.
-fn first(bytes: &[u8]) -> u8
-    ensures { result ≡ slice_index bytes.now 0 }
-{
-    match bytes.first() {
-        Some(b) => *b,
-        None => 0,
-    }
-}
-
-fn text_fault(at: usize, mended: Front) -> NoJson
-    ensures { result ≡ text_fault at mended }
-{
-    match mended {
-        Front::Good => NoJson::HalfPair(at),
-        Front::End | Front::Huge | Front::Bad => NoJson::Quoted(at),
-    }
-}
-
 /// What is wrong with what these bytes begin with, at this byte, which is no token.
 fn token_fault(alloc: Global, at: usize, bytes: &[u8]) -> Result<NoJson, AllocError>
     ensures { IfOk result (λ why. why ≡ token_fault at bytes.now) }
 {
-    if first(bytes) != b'"' {
+    if !matches!(bytes.first(), Some(b'"')) {
         return Ok(NoJson::Word(at));
     }
     let mended = without_d(alloc, bytes)?;
-    Ok(text_fault(at, bytes_front(alloc, mended.as_slice())?))
+    match bytes_front(alloc, mended.as_slice())? {
+        Front::Good => Ok(NoJson::HalfPair(at)),
+        Front::End | Front::Huge | Front::Bad => Ok(NoJson::Quoted(at)),
+    }
 }
 
 /// What is wrong at this byte, where these come there.

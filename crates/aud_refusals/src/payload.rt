@@ -4,8 +4,8 @@ ghost use Rattle.std.specs.Option.{option_copied};
 ghost use Rattle.aud_eio.specs.Body.{body_pieces};
 ghost use Rattle.std.specs.List.{after_first};
 ghost use Rattle.aud_sio.specs.Digits.{after_digits, digit_count};
-ghost use Rattle.aud_sio.specs.Namespace.{is_comma, leading_namespace};
-ghost use Rattle.aud_refusals.specs.NoPacket.{after_type, is_dash, message_of, message_text, packet_text, payload_fault, payload_of, told, told_of, told_refusal};
+ghost use Rattle.aud_sio.specs.Namespace.{leading_namespace};
+ghost use Rattle.aud_refusals.specs.NoPacket.{after_type, is_dash, message_text, packet_text, payload_fault, payload_of, told, told_of, told_refusal};
 
 use crate::no_json::{is_json, no_json};
 use crate::no_packet::{NoPacket, PayloadFault, Refusal};
@@ -41,21 +41,15 @@ fn after_type(text: &str) -> &str
     rest
 }
 
-fn after_comma(text: &str) -> &str
-    ensures { result.now ≡ after_first is_comma text.now }
-{
-    match text.split_once(',') {
-        Some((_, rest)) => rest,
-        None => "",
-    }
-}
-
 #[tactic(auto, unfolding(aud_sio::specs::Namespace::leading_namespace))]
 fn after_namespace(text: &str) -> &str
     ensures { result.now ≡ (leading_namespace text.now).1 }
 {
     match text.as_bytes().first() {
-        Some(b'/') => after_comma(text),
+        Some(b'/') => match text.split_once(',') {
+            Some((_, rest)) => rest,
+            None => "",
+        },
         _ => text,
     }
 }
@@ -152,26 +146,14 @@ fn told_refusal(
     }
 }
 
-/// The message of the record's packet with that number.
-fn message_of<'a>(
-    alloc: Global,
-    rec: &'a ClientRec,
-    number: Option<usize>,
-) -> Result<Option<&'a str>, AllocError>
-    ensures { IfOk result (λ message. option_map (λ s. s.now) message
-        ≡ message_of rec.now number) }
-{
-    match packet_text(alloc, rec, number)? {
-        Some(text) => message_text(alloc, text),
-        None => Ok(None),
-    }
-}
-
 /// The refusal of the record; of a payload what is wrong with it.
 fn told(alloc: Global, rec: &ClientRec, found: NoPacket) -> Result<NoPacket, AllocError>
     ensures { IfOk result (λ said. said ≡ told rec.now found) }
 {
-    let message = message_of(alloc, rec, found.packet)?;
+    let message = match packet_text(alloc, rec, found.packet)? {
+        Some(text) => message_text(alloc, text)?,
+        None => None,
+    };
     let refusal = told_refusal(alloc, found.refusal, message)?;
     Ok(NoPacket {
         refusal,

@@ -4,7 +4,7 @@ ghost use Rattle.std.specs.List.{list_all};
 ghost use Rattle.aud_tap.specs.Limits.{fits};
 ghost use Rattle.aud_tap.specs.TapName.{is_name_byte, is_tap_name};
 ghost use Rattle.aud_reader.specs.Record.{cut_at_blank};
-ghost use Rattle.aud_refusals.specs.TapName.{begin_text, blank_text, first_blank, first_strange, front_text, known_text, name_help, strange_text};
+ghost use Rattle.aud_refusals.specs.TapName.{begin_text, blank_text, first_blank, first_strange, known_text, name_help, strange_text};
 
 use aud_tap::limits::MAX_NAME;
 use std::alloc::AllocError;
@@ -77,22 +77,13 @@ fn push_strange(out: &mut String, name: &[u8]) -> Result<(), AllocError>
     }
 }
 
-fn push_front(out: &mut String, name: &[u8]) -> Result<(), AllocError>
-    ensures { OnOk result (string_bytes out.new ≡ string_bytes out.old ++ front_text name.now) }
-{
-    if name.is_empty() {
-        writeln!(out, "This line begins with a blank.")
-    } else {
-        push_strange(out, name)
-    }
-}
-
 fn push_blank(out: &mut String, line: &[u8]) -> Result<(), AllocError>
     ensures { OnOk result (string_bytes out.new
         ≡ string_bytes out.old ++ blank_text line.now (first_blank line.now)) }
 {
     match cut_at_blank(line) {
-        Some((name, _)) => push_front(out, name),
+        Some(([], _)) => writeln!(out, "This line begins with a blank."),
+        Some((name, _)) => push_strange(out, name),
         None => writeln!(out, "In this line stands no blank."),
     }
 }

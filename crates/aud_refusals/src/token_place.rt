@@ -1,6 +1,6 @@
 //! At which byte of a text a token begins.
 ghost use Rattle.std.specs.Prelude.{◌≡◌, ◌≤◌, length};
-ghost use Rattle.aud_refusals.specs.NoJson.{after_between, after_text, after_word, begin_of_token, begins, ends_word, is_bracket, is_comma_or_colon, is_white, mode_after};
+ghost use Rattle.aud_refusals.specs.NoJson.{after_word, begin_of_token, begins, is_bracket, is_comma_or_colon, is_white, mode_after};
 ghost use Rattle.aud_refusals.specs.declared.token_place.Mode.TheVariants.{Between};
 
 /// Within what a byte stands.
@@ -32,45 +32,13 @@ fn is_bracket(b: u8) -> bool
     matches!(b, b'[' | b']' | b'{' | b'}')
 }
 
-fn ends_word(b: u8) -> bool
-    ensures { result ≡ ends_word b }
-{
-    if is_white(b) {
-        return true;
-    }
-    if is_comma_or_colon(b) {
-        return true;
-    }
-    is_bracket(b)
-}
-
 fn after_word(b: u8) -> Mode
     ensures { result ≡ after_word b }
 {
-    if ends_word(b) {
+    if is_white(b) || is_comma_or_colon(b) || is_bracket(b) {
         Mode::Between
     } else {
         Mode::InWord
-    }
-}
-
-fn after_between(b: u8) -> Mode
-    ensures { result ≡ after_between b }
-{
-    if b == b'"' {
-        Mode::InText
-    } else {
-        after_word(b)
-    }
-}
-
-fn after_text(b: u8) -> Mode
-    ensures { result ≡ after_text b }
-{
-    match b {
-        b'"' => Mode::Between,
-        b'\\' => Mode::InEscape,
-        _ => Mode::InText,
     }
 }
 
@@ -78,10 +46,11 @@ fn mode_after(mode: Mode, b: u8) -> Mode
     ensures { result ≡ mode_after mode b }
 {
     match mode {
-        Mode::Between => after_between(b),
-        Mode::InWord => after_word(b),
-        Mode::InText => after_text(b),
-        Mode::InEscape => Mode::InText,
+        Mode::Between if b == b'"' => Mode::InText,
+        Mode::Between | Mode::InWord => after_word(b),
+        Mode::InText if b == b'"' => Mode::Between,
+        Mode::InText if b == b'\\' => Mode::InEscape,
+        Mode::InText | Mode::InEscape => Mode::InText,
     }
 }
 

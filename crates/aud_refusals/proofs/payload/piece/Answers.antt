@@ -1,4 +1,4 @@
-use Rattle.std.proofs.Common.{◌≡◌, ◌∙◌, ap, arith, map, option_map, option_copied, slice_get, sym}
+use Rattle.std.proofs.Common.{◌≡◌, ◌∙◌, ap, arith, option_map, option_copied, slice_get, sym}
 use Rattle.std.proofs.lemmas.Grind.{common_steps}
 use Rattle.std.proofs.lemmas.Option.{gets, slice_get-map}
 use Rattle.aud_refusals.proofs.payload.piece.Goals as goal
