@@ -1,7 +1,6 @@
 -- All positions that pass a test.
-use Rattle.std.proofs.Common.{◌≡◌, ◌<◌, ◌&&◌, ◌||◌, not, ◌∙◌, ℕ, Bool, true, false, List, [], ◌∷◌, cond, filter, nat_eq, refl, sym, ap, subst}
+use Rattle.std.proofs.Common.{◌≡◌, ◌&&◌, ◌||◌, ◌∙◌, ℕ, Bool, true, false, List, [], ◌∷◌, cond, filter, nat_eq, refl, sym, ap, subst}
 use Rattle.std.proofs.lemmas.Bool.{eqb-true}
-use Rattle.std.proofs.lemmas.List.Kept.{AllPairs-filter}
 use Rattle.std.proofs.lemmas.Bool.{eq-eqb}
 use Rattle.std.proofs.lemmas.List.Folds.{Any-from_list_any, list_any-from_Any}
 use Rattle.std.proofs.lemmas.List.Kept.{AllPairs-from_increasing, Contains-dedup_nat, Contains-from_dedup}
@@ -11,7 +10,7 @@ use Rattle.std.specs.List.Sorted.{IsPermutation, IsStrictlyIncreasing}
 use Rattle.aud_check.specs.declared.difference.Difference.{Difference}
 use Rattle.aud_check.specs.declared.difference.Difference.TheVariants.{Extra, Doubled, Swapped, Lost}
 use Rattle.aud_findings.specs.Private.Seen.{is_also_by}
-use Rattle.aud_check.specs.Difference.{IsAscending, has_position}
+use Rattle.aud_check.specs.Difference.{has_position}
 use Rattle.aud_findings.specs.Also.{AreAllOf, is_also}
 
 and_false : (b : Bool) → (b && false) ≡ false
@@ -36,11 +35,7 @@ has_filter test (x ∷ xs) p = go (has_filter test xs p) (test x) refl
     go others true is = kept (nat_eq x p) (has_position xs p) (has_position (filter test xs) p) (test p) (λ e. ap test (sym (eqb-true x p e)) ∙ is) others
     go others false is = left (nat_eq x p) (has_position xs p) (has_position (filter test xs) p) (test p) (λ e. ap test (sym (eqb-true x p e)) ∙ is) others
 
--- those of an ascending list that pass a test
-pub all_due : (test : ℕ → Bool) (due : List ℕ) → IsAscending due → AreAllOf (λ p. has_position due p && test p) (filter test due)
-all_due test due up = record { ascending = AllPairs-filter (λ p q. p < q) test due up; all = has_filter test due }
-
--- so of another difference than that of an entry that was not due
+-- those of another difference than that of an entry that was not due
 pub all_also : (received due positions : List ℕ) (difference : Difference) → ((frame position : ℕ) → difference ≡ Extra frame position → ⊥)
     → AreAllOf (λ p. has_position due p && is_also_by received difference p) positions → AreAllOf (is_also received due difference) positions
 all_also received due positions (Extra frame position) other all = absurd (other frame position refl)

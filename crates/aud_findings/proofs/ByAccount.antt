@@ -1,11 +1,7 @@
 -- What is told of a session by its account: its other entries, and its tail.
-use Rattle.std.proofs.Common.{◌≡◌, ◌<◌, ℕ, List, [], ◌∷◌, map, length, drop, take, slice_get, Option, Some, None, refl, sym, ap, subst, ◌∙◌, inl, inr}
+use Rattle.std.proofs.Common.{◌≡◌, ◌<◌, ℕ, List, map, length, slice_get, Option, Some, None, refl, sym, ap, subst, ◌∙◌, inl, inr}
 use Rattle.std.proofs.lemmas.Option.{none-some, same_Some, slice_get_within}
-use Rattle.std.proofs.lemmas.List.Kept.{AllPairs-from_increasing}
 use Rattle.aud_node.specs.Cluster.{Cluster}
-use Rattle.aud_rooms.specs.Turns.{slice_of}
-use Rattle.aud_rooms.specs.TurnsDue.{is_turn_due}
-use Rattle.aud_rooms.proofs.Ascending.{filter-ascends}
 use Rattle.aud_node.specs.Names.{AreNamedOnce}
 use Rattle.aud_node.specs.Stream.{Text}
 use Rattle.aud_client.specs.StaySeen.{StaySeen}
@@ -19,20 +15,16 @@ use Rattle.aud_check.specs.declared.difference.Difference.{Difference}
 use Rattle.aud_check.specs.declared.difference.Difference.TheVariants as parted
 use Rattle.aud_check.specs.declared.finding.Finding.{Finding}
 use Rattle.aud_check.specs.declared.finding.Finding.TheVariants as finding
-use Rattle.aud_check.specs.Difference.{IsAscending, IsDifference}
+use Rattle.aud_check.specs.Difference.{IsDifference}
 use Rattle.aud_check.specs.Window.{positions_received}
 use Rattle.aud_input.specs.TapLines.{TapLines}
 use Rattle.aud_rows.specs.Seen.{RowSeen}
 use Rattle.aud_session_facts.specs.ShowsDifference.{AreNumbersOf}
-use Rattle.aud_verdict.specs.Session.{SessionLogs, own_stays, due_to}
+use Rattle.aud_verdict.specs.Session.{own_stays, due_to}
 use Rattle.aud_findings.specs.Also.{AreAllOf, AreAlso, AreTailAlso, OthersSeen, entry_lines, is_also, lines_at, no_others, tail_others, told_of}
 use Rattle.aud_findings.specs.Received.{frame_of, tail_positions}
 use Rattle.aud_findings.specs.Tail.{ShowsTail, tail_rows}
 use Rattle.aud_findings.specs.Private.Known.{IsWithin}
-
--- what was due to a session ascends
-due_ascends : (c : Cluster) (s : SessionLogs) → IsAscending (due_to c s)
-due_ascends c s = AllPairs-from_increasing _ (filter-ascends (is_turn_due c.stream s.who (map (slice_of c) s.turns)) 1 (length c.stream))
 
 -- what was found of the account is what is found of its session
 pub own_found : (c : Cluster) (pid : Text) (a : Account) (of : IsAccountOf c pid a) → IsFound c of.is.session.client (own_stays c of.is.session) (due_to c of.is.session) a.found
@@ -79,7 +71,7 @@ module _ (c : Cluster) (lines : List TapLines) (pid : Text) (client : ℕ) (stay
   -- these are those of the difference
   pub some_also : (difference : Difference) → IsDifference (positions_received stays) due difference → (place : ℕ) (numbers : List ℕ) → place ≡ client
       → AreNumbersOf c pid place numbers → (also : OthersSeen) (others : List ℕ)
-      → (IsAscending owed → AreAllOf (is_also received owed difference) others) → also ≡ told_of (lines_at c lines place numbers received difference) others
+      → AreAllOf (is_also received owed difference) others → also ≡ told_of (lines_at c lines place numbers received difference) others
       → AreAlso c lines pid also
   some_also difference is place numbers at are also others all those =
       let s = account.session in
@@ -94,7 +86,7 @@ module _ (c : Cluster) (lines : List TapLines) (pid : Text) (client : ℕ) (stay
           numbers = numbers;
           are_its_stays = subst (λ p. AreNumbersOf c pid p numbers) there are;
           others = others;
-          are_all = subst (λ all. all) (λ i. AreAllOf (is_also (recv i) (owes i) difference) others) (all (subst IsAscending (sym owes) (due_ascends c s)));
+          are_all = subst (λ all. all) (λ i. AreAllOf (is_also (recv i) (owes i) difference) others) all;
           are = those ∙ (λ i. told_of (lines_at c lines (there i) numbers (recv i) difference) others);
         });
       }

@@ -1,5 +1,5 @@
 -- The nodes whose logs are out of order, and what was read of a tap.
-use Rattle.std.proofs.Common.{◌≡◌, ◌<◌, ◌≤◌, ◌+◌, ◌++◌, ℕ, zero, suc, Bool, true, false, List, [], ◌∷◌, length, take, get_or, nat_eq, Option, Some, None, slice_get, refl, sym, ap, subst, ◌∙◌, arith}
+use Rattle.std.proofs.Common.{◌≡◌, ◌<◌, ◌+◌, ◌++◌, ℕ, suc, Bool, true, false, List, [], ◌∷◌, length, take, get_or, nat_eq, Option, Some, None, slice_get, refl, sym, ap, subst, ◌∙◌, arith}
 use Rattle.std.specs.List.{All, AllZip, Contains, list_any}
 use Rattle.std.proofs.lemmas.List.{take_more}
 use Rattle.std.proofs.lemmas.List.Elements.{All-cons, All-nil}
@@ -17,12 +17,6 @@ use Rattle.aud_findings.specs.declared.prepared.PreparedTap.TheVariants.{Client,
 use Rattle.aud_findings.specs.Prepared.{IsRead, IsPreparedOf, IsOrderRead}
 use Rattle.aud_findings.specs.ShowsOrder.{AreOutOfOrder, places_in}
 use Rattle.aud_findings.proofs.Read.{zip_append}
-
-pub take_whole : (xs : List ℕ) (i : ℕ) → length xs ≤ i → take i xs ≡ xs
-take_whole [] zero h = refl
-take_whole [] (suc i) h = refl
-take_whole (x ∷ xs) zero h = absurd (omega arith)
-take_whole (x ∷ xs) (suc i) h = ap (λ ys. x ∷ ys) (take_whole xs i (omega arith))
 
 -- ---- the nodes that are out of order
 

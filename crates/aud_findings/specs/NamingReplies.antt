@@ -9,15 +9,11 @@ use Rattle.aud_rows.specs.declared.row.Role.TheVariants.{Fault}
 use Rattle.aud_rows.specs.Seen.{RowSeen}
 use Rattle.aud_rows.specs.StayRows.{reply_row}
 use Rattle.aud_session_facts.specs.ShowsDifference.{AreNumbersOf}
-use Rattle.aud_findings.specs.declared.replies.NamingTap.{NamingTap}
 
 -- a client's tap, by its place, and the numbers of stays there
 pub record NamingSeen : Type 0 where
   pub place : ℕ
   pub numbers : List ℕ
-
-abbrev pub naming_seen : NamingTap → NamingSeen
-naming_seen tap = record { place = tap.place; numbers = tap.numbers.now }
 
 -- the tap stands at this place, and these are the numbers of its stays whose reply names the session
 pub record IsNamingTap (c : Cluster) (pid : Text) (place : ℕ) (tap : NamingSeen) : Type 0 where

@@ -1,15 +1,9 @@
 -- The first record of a node's log that is out of order.
-use Rattle.std.specs.Prelude.{◌≡◌, ◌<◌, ℕ, Bool, true, false, List, length, Option, Some, None, is_some, slice_get}
+use Rattle.std.specs.Prelude.{◌≡◌, ◌<◌, ℕ, Bool, true, false, List, length, slice_get}
 use Rattle.aud_tap.specs.declared.records.StreamRec.{StreamRec}
 use Rattle.aud_tap.specs.declared.records.NodeRec.{NodeRec}
 use Rattle.aud_node.specs.Cursors.{cursor_at}
 use Rattle.aud_node.specs.Ordered.{is_some_in_order}
-use Rattle.aud_node.specs.Stream.{Text, position}
-
--- a node can begin so: at the stream's begin, or after one of its entries
-abbrev pub starts_in_order : List StreamRec → Option Text → Bool
-starts_in_order stream None = true
-starts_in_order stream (Some off) = is_some (position stream off)
 
 -- there is a record with this number, and it is in order after the cursor to which those before it lead
 abbrev pub is_record_in_order : List StreamRec → List NodeRec → ℕ → Bool

@@ -1,4 +1,5 @@
 -- What contracts of private functions alone cite. No public clause rests on these words.
+pub mod Held
 pub mod InRanges
 pub mod Known
 pub mod Seen

@@ -3,7 +3,7 @@ ghost use Rattle.std.specs.Prelude.{◌≡◌, IfOk, IfSome, is_some, length};
 ghost use Rattle.aud_node.specs.Cluster.{Cluster};
 ghost use Rattle.aud_node.specs.Stream.{Text};
 ghost use Rattle.aud_session_facts.specs.Account.{IsAccountOf};
-ghost use Rattle.aud_findings.specs.Received.{AreFigures, AreFiguresOf, IsReceivedShown, at_frame, frame_of, greatest, is_judged, tail_of};
+ghost use Rattle.aud_findings.specs.Received.{AreFigures, AreFiguresOf, IsReceivedShown, at_frame, frame_of, greatest, is_judged};
 ghost use Rattle.aud_findings.specs.Private.Known.{IsWithin};
 
 use aud_cert::{Class, class_of};
@@ -17,8 +17,8 @@ use std::alloc::{AllocError, Global};
 /// is no account, or the delivery was not judged.
 pub(crate) fn received_shown(
     alloc: Global,
-    verdict: &Verdict,
     account: Option<&Account<'_, '_>>,
+    verdict: &Verdict,
 ) -> Result<Option<Received>, AllocError>
     ensures { (c : Cluster) (pid : Text)
         → IfSome account.entry (λ a. IsAccountOf c pid a.now)
@@ -44,20 +44,13 @@ fn figures(received: &[u64], due: &[u64], difference: Option<Difference>) -> Rec
     ensures { IsWithin (length received.now) difference
         → AreFigures received.now due.now difference result }
 {
+    let last = greatest(received);
     Received {
         got: received.len() as u64,
         due: due.len() as u64,
-        tail: tail_of(received, due),
+        tail: due.iter().filter(|position| last < **position).count() as u64,
         at_frame: at_frame_of(received, difference),
     }
-}
-
-/// How many of those due are past all that were received.
-fn tail_of(received: &[u64], due: &[u64]) -> u64
-    ensures { result ≡ tail_of received.now due.now }
-{
-    let last = greatest(received);
-    due.iter().filter(|position| last < **position).count() as u64
 }
 
 /// The greatest of the positions, 0 where there are none.

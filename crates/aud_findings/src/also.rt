@@ -1,5 +1,5 @@
 //! The other entries that have the same fault, with the lines that show it.
-ghost use Rattle.std.specs.Prelude.{◌≡◌, ◌++◌, ◌||◌, IfOk, IfSome, OnOk, false, is_some, option_map, true};
+ghost use Rattle.std.specs.Prelude.{◌≡◌, ◌++◌, IfOk, IfSome, OnOk, is_some, option_map, true};
 ghost use Rattle.aud_session_facts.specs.Account.{IsAccountOf};
 ghost use Rattle.aud_rows.specs.ClientPlaces.{AreOf};
 ghost use Rattle.aud_rows.specs.Seen.{row_seen};
@@ -7,14 +7,14 @@ ghost use Rattle.aud_rows.specs.StayRows.{stays_at};
 ghost use Rattle.aud_rows.specs.TrueRow.{IsTrueRow};
 ghost use Rattle.aud_session_facts.specs.FramePlaces.{frame_at};
 ghost use Rattle.aud_findings.specs.Prepared.{IsPreparedOf};
-ghost use Rattle.aud_findings.specs.Also.{AreAlso, AreAlteredAlso, IsAlsoShown, also_seen, end_lines, entry_lines, frame_row_at, got_lines, is_altered, is_short, line_of, lines_at, no_others, others_seen, range_shown, told_of};
-ghost use Rattle.aud_findings.specs.Received.{is_parted};
+ghost use Rattle.aud_findings.specs.Also.{AreAlso, IsAlsoShown, also_seen, end_lines, entry_lines, frame_row_at, got_lines, line_of, lines_at, no_others, others_seen, range_shown, told_of};
+ghost use Rattle.aud_verdict.specs.declared.verdict.Verdict.TheVariants.{No};
 ghost use Rattle.aud_findings.specs.Private.InRanges.{range_seen};
 
 use crate::altered::altered_also;
 use crate::others::others;
 use crate::outcome::{AlsoShown, OthersShown};
-use crate::prepared::Prepared;
+use crate::prepared::{Prepared, tap_at};
 use crate::ranges::{Range, ranges_of};
 use crate::replies::numbers_naming;
 use crate::tail::tail_also;
@@ -42,13 +42,14 @@ pub(crate) fn also_found<'r, 'a>(
     ensures { IfOk result (λ also. IsAlsoShown sheet.now.recording.now sheet.now.lines.now pid.now
         (is_some account.entry) verdict.now (others_seen also)) }
 {
-    match account {
-        Some(account) if is_of_frames(verdict) => {
-            also_in(alloc, sheet, prepared, pid, verdict, account)
-        }
-        Some(account) if is_short(verdict) => tail_also(alloc, sheet, account),
-        _ => Ok(no_others(alloc)),
-    }
+    let Some(account) = account else {
+        return Ok(no_others(alloc));
+    };
+    let Verdict::No(fault) = verdict else {
+        return Ok(no_others(alloc));
+    };
+    let tap = tap_at(alloc, sheet.recording, prepared, account.client)?;
+    also_by(alloc, sheet, tap.places(), pid, fault, account)
 }
 
 /// None.
@@ -61,86 +62,29 @@ fn no_others(alloc: Global) -> OthersShown
     }
 }
 
-/// The same by the account.
-fn also_in<'r, 'a>(
-    alloc: Global,
-    sheet: &Sheet<'r, 'a>,
-    prepared: &Prepared,
-    pid: &str,
-    verdict: &Verdict,
-    account: &Account<'r, 'a>,
-) -> Result<OthersShown, AllocError>
-    requires prepared { IsPreparedOf sheet.now.recording.now prepared.now }
-    requires account { IsAccountOf sheet.now.recording.now pid.now account.now }
-    ensures parted { is_parted verdict.now ≡ true → IfOk result (λ also.
-        AreAlso sheet.now.recording.now sheet.now.lines.now pid.now (others_seen also)) }
-    ensures altered { is_parted verdict.now ≡ false → IfOk result (λ also.
-        AreAlteredAlso sheet.now.recording.now sheet.now.lines.now pid.now (others_seen also)) }
-{
-    match prepared.tap(account.client) {
-        Some(tap) => also_by(alloc, sheet, tap, pid, verdict, account),
-        None => {
-            let tap = ClientPlaces::read(alloc, sheet.recording.logs(), account.client)?;
-            also_by(alloc, sheet, &tap, pid, verdict, account)
-        }
-    }
-}
-
-/// The same by the client's tap.
+/// Those that have this fault, by the account and the client's tap.
 fn also_by<'r, 'a>(
     alloc: Global,
     sheet: &Sheet<'r, 'a>,
     tap: &ClientPlaces,
     pid: &str,
-    verdict: &Verdict,
+    fault: &Fault,
     account: &Account<'r, 'a>,
 ) -> Result<OthersShown, AllocError>
     requires tap { AreOf sheet.now.recording.now tap.now }
     requires place { tap.now.place ≡ account.now.client }
     requires account { IsAccountOf sheet.now.recording.now pid.now account.now }
-    ensures parted { is_parted verdict.now ≡ true → IfOk result (λ also.
-        AreAlso sheet.now.recording.now sheet.now.lines.now pid.now (others_seen also)) }
-    ensures altered { is_parted verdict.now ≡ false → IfOk result (λ also.
-        AreAlteredAlso sheet.now.recording.now sheet.now.lines.now pid.now (others_seen also)) }
+    ensures { IfOk result (λ also. IsAlsoShown sheet.now.recording.now sheet.now.lines.now pid.now
+        true (No fault.now) (others_seen also)) }
 {
-    if is_parted(verdict) {
-        return also_of(alloc, sheet, tap, pid, account);
+    match fault {
+        Fault::Extra(_) | Fault::Doubled(_) | Fault::Swapped(_) | Fault::Lost(_) => {
+            also_of(alloc, sheet, tap, pid, account)
+        }
+        Fault::Content(_) => altered_also(alloc, sheet, tap, pid, account),
+        Fault::Tail(_) => tail_also(alloc, sheet, account),
+        _ => Ok(no_others(alloc)),
     }
-    altered_also(alloc, sheet, tap, pid, account)
-}
-
-/// Whether the verdict is that what was received parts from what was due.
-pub(crate) fn is_parted(verdict: &Verdict) -> bool
-    ensures { result ≡ is_parted verdict.now }
-{
-    match verdict {
-        Verdict::Yes { .. } => false,
-        Verdict::No(fault) => matches!(
-            fault,
-            Fault::Extra(_) | Fault::Doubled(_) | Fault::Swapped(_) | Fault::Lost(_)
-        ),
-    }
-}
-
-/// Whether the verdict is that a frame isn't its entry.
-fn is_altered(verdict: &Verdict) -> bool
-    ensures { result ≡ is_altered verdict.now }
-{
-    matches!(verdict, Verdict::No(Fault::Content(_)))
-}
-
-/// Whether frames show the fault, so that the client's tap is needed.
-fn is_of_frames(verdict: &Verdict) -> bool
-    ensures { result ≡ (is_parted verdict.now || is_altered verdict.now) }
-{
-    is_parted(verdict) || is_altered(verdict)
-}
-
-/// Whether the verdict is that of a tail.
-fn is_short(verdict: &Verdict) -> bool
-    ensures { result ≡ is_short verdict.now }
-{
-    matches!(verdict, Verdict::No(Fault::Tail(_)))
 }
 
 /// The other entries with the fault of the difference between what was received of the session and what was due to it;

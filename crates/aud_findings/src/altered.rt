@@ -1,5 +1,5 @@
 //! The other entries of which a frame came that isn't the entry, with the lines that show it.
-ghost use Rattle.std.specs.Prelude.{◌≡◌, ◌++◌, IfOk, OnOk, filter, map, nat_eq, not, [], ◌∷◌};
+ghost use Rattle.std.specs.Prelude.{◌≡◌, IfOk, filter, map, nat_eq, not};
 ghost use Rattle.aud_session_facts.specs.Account.{IsAccountOf};
 ghost use Rattle.aud_rows.specs.ClientPlaces.{AreOf};
 ghost use Rattle.aud_findings.specs.Also.{AreAllOf, AreAlteredAlso, altered_lines, altered_positions, is_altered_at, is_another, others_seen, told_of};
@@ -118,25 +118,11 @@ fn altered_positions(
 {
     let mut found = Vec::new(alloc);
     for frame in frames {
-        push_altered(&mut found, stream, *frame)?;
+        if !is_entry(stream, *frame) {
+            found.push(frame.position)?;
+        }
     }
     Ok(found)
-}
-
-/// Adds the position of the frame, if it isn't the entry there.
-fn push_altered(
-    found: &mut Vec<u64>,
-    stream: &Stream<'_>,
-    frame: &Frame<'_>,
-) -> Result<(), AllocError>
-    ensures { OnOk result (found.new.items
-        ≡ found.old.items ++ altered_positions stream.now (frame.now ∷ [])) }
-{
-    if is_entry(stream, frame) {
-        return Ok(());
-    }
-    found.push(frame.position)?;
-    Ok(())
 }
 
 /// Those of the positions that are others than the first one in this list: ascending, each once.
@@ -157,11 +143,9 @@ fn others_than(alloc: Global, first: u64, positions: &[u64]) -> Result<Vec<u64>,
     ensures { IfOk result (λ found. found.items
         ≡ filter (λ p. not (nat_eq p first)) positions.now) }
 {
-    let mut found = Vec::new(alloc);
-    for position in positions {
-        if *position != first {
-            found.push(*position)?;
-        }
-    }
-    Ok(found)
+    positions
+        .iter()
+        .copied()
+        .filter(|position| *position != first)
+        .collect(alloc)
 }

@@ -1,8 +1,8 @@
 //! The client that had a session.
-ghost use Rattle.std.specs.Prelude.{◌≡◌, IfOk, map, option_map, slice_get};
+ghost use Rattle.std.specs.Prelude.{◌≡◌, IfOk, map, option_map};
 ghost use Rattle.std.specs.Option.{option_copied};
 ghost use Rattle.aud_rows.specs.Seen.{row_seen, says_seen};
-ghost use Rattle.aud_findings.specs.ClientShown.{client_at, client_of, client_seen, conn_in, fault_conn, first_stay};
+ghost use Rattle.aud_findings.specs.ClientShown.{client_of, client_seen, conn_in, fault_conn, first_stay};
 
 use aud_client::{Recording, Stay};
 use aud_explanation::Client;
@@ -20,27 +20,13 @@ pub(crate) fn client_of<'r>(
     ensures { IfOk result (λ client. option_map client_seen client
         ≡ client_of sheet.now.recording.now pid.now (map row_seen rows.now)) }
 {
-    match sheet.recording.naming(pid) {
-        [place] => client_at(alloc, sheet, pid, rows, *place),
-        _ => Ok(None),
-    }
-}
-
-/// That of the tap at this place.
-fn client_at<'r>(
-    alloc: Global,
-    sheet: &Sheet<'r, '_>,
-    pid: &str,
-    rows: &[Row<'_>],
-    place: usize,
-) -> Result<Option<Client<'r>>, AllocError>
-    ensures { IfOk result (λ client. option_map client_seen client
-        ≡ client_at sheet.now.recording.now pid.now (map row_seen rows.now) place) }
-{
-    let Some(tap) = sheet.recording.logs().taps().get(place) else {
+    let [place] = sheet.recording.naming(pid) else {
         return Ok(None);
     };
-    let Some(stay) = first_stay(alloc, sheet.recording, pid, place)? else {
+    let Some(tap) = sheet.recording.logs().taps().get(*place) else {
+        return Ok(None);
+    };
+    let Some(stay) = first_stay(alloc, sheet.recording, pid, *place)? else {
         return Ok(None);
     };
     Ok(Some(Client {
@@ -63,16 +49,7 @@ fn first_stay<'r, 'a>(
         return Ok(None);
     };
     let stays = client.naming(alloc, pid)?;
-    Ok(first_of(stays.as_slice()))
-}
-
-fn first_of<'r, 'a>(stays: &[&'r Stay<'a>]) -> Option<&'r Stay<'a>>
-    ensures { option_copied result ≡ slice_get (map (λ stay. stay.now) stays.now) 0 }
-{
-    match stays.first() {
-        Some(stay) => Some(*stay),
-        None => None,
-    }
+    Ok(stays.first().copied())
 }
 
 /// The connection of the first of the rows at which the fault shows, if that is of a client's record.

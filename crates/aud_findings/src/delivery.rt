@@ -1,20 +1,18 @@
 //! What shows what was found wrong first with what was received of a session, and how that comes.
-ghost use Rattle.std.specs.Prelude.{◌≡◌, ◌++◌, IfOk, IfSome, MatchOption, map};
+ghost use Rattle.std.specs.Prelude.{◌≡◌, IfOk, IfSome, MatchOption, map};
 ghost use Rattle.aud_node.specs.Stream.{Text};
 ghost use Rattle.aud_maker.specs.Made.{IsMade};
 ghost use Rattle.aud_session_facts.specs.Account.{stays_of};
 ghost use Rattle.aud_rows.specs.ClientPlaces.{AreOf};
 ghost use Rattle.aud_rows.specs.Seen.{row_seen};
-ghost use Rattle.aud_session_facts.specs.DifferenceRows.{difference_rows};
 ghost use Rattle.aud_session_facts.specs.RowLists.{AreTrueRows};
 ghost use Rattle.aud_session_facts.specs.SessionRows.{session_of};
-ghost use Rattle.aud_findings.specs.BesideRows.{beside_rows};
 ghost use Rattle.aud_findings.specs.ShowsFound.{IsFoundOtherwise, ShowsFound};
 ghost use Rattle.aud_findings.specs.Private.Known.{IsShownBy, finding_rows};
 
 use crate::beside::beside;
 use aud_cert::{Certificate, Fault};
-use aud_check::{Difference, Finding};
+use aud_check::Finding;
 use aud_rows::Row;
 use aud_session_facts::{
     Account, ShownSession, altered_rows, difference_rows, push_row, push_rows, window_rows,
@@ -48,7 +46,8 @@ pub(crate) fn found_shown<'r>(
     }
 }
 
-/// The rows of what was found; none of a record that is no packet, and of an event of which nobody knows the session.
+/// The rows of what was found, in front of those of a difference those that tell how it comes to be one; none of a record
+/// that is no packet, and of an event of which nobody knows the session.
 fn finding_rows<'r>(
     alloc: Global,
     session: &ShownSession<'_, 'r, '_>,
@@ -65,33 +64,16 @@ fn finding_rows<'r>(
 {
     match found {
         Finding::Content(altered) => altered_rows(alloc, session, altered),
-        Finding::Delivery(difference) => delivery_rows(alloc, session, cert, difference),
+        Finding::Delivery(difference) => {
+            let (first, second) = beside(&session.sheet, cert, difference);
+            let shown = difference_rows(alloc, session, difference)?;
+            let mut rows = Vec::new(alloc);
+            push_row(&mut rows, first)?;
+            push_row(&mut rows, second)?;
+            push_rows(&mut rows, &shown)?;
+            Ok(rows)
+        }
         Finding::Window(window) => window_rows(alloc, session, window),
         Finding::Frame | Finding::Orphan => Ok(Vec::new(alloc)),
     }
-}
-
-/// The rows of the difference, and in front of them those that tell how it comes to be one.
-fn delivery_rows<'r>(
-    alloc: Global,
-    session: &ShownSession<'_, 'r, '_>,
-    cert: &Certificate<'_>,
-    difference: Difference,
-) -> Result<Vec<Row<'r>>, AllocError>
-    requires tap { AreOf session.now.sheet.recording.now session.now.tap.now }
-    requires made { IsMade session.now.sheet.recording.now cert.now.pid cert.now }
-    ensures rows { (made : IsMade session.now.sheet.recording.now cert.now.pid cert.now)
-        → IfOk result (λ rows. map row_seen rows.items
-        ≡ beside_rows session.now.sheet.recording.now session.now.sheet.lines.now cert.now made
-        difference ++ difference_rows (session_of session.now) difference) }
-    ensures truth { IfOk result (λ rows.
-        AreTrueRows session.now.sheet.recording.now session.now.sheet.lines.now rows.items) }
-{
-    let (first, second) = beside(&session.sheet, cert, difference);
-    let shown = difference_rows(alloc, session, difference)?;
-    let mut rows = Vec::new(alloc);
-    push_row(&mut rows, first)?;
-    push_row(&mut rows, second)?;
-    push_rows(&mut rows, &shown)?;
-    Ok(rows)
 }

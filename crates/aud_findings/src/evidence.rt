@@ -14,7 +14,7 @@ use crate::frame::frame_shown;
 use crate::names::names_shown;
 use crate::order::order_shown;
 use crate::orphan::orphan_shown;
-use crate::prepared::Prepared;
+use crate::prepared::{Prepared, tap_at};
 use crate::replies::numbers_naming;
 use crate::tail::tail_shown;
 use crate::unplaced::{client_rows, no_log_rows};
@@ -97,13 +97,8 @@ fn known_shown<'r, 'a>(
     let Some(account) = account else {
         return Ok(None);
     };
-    match prepared.tap(account.client) {
-        Some(tap) => told_shown(alloc, sheet, prepared, tap, pid, fault, account),
-        None => {
-            let tap = ClientPlaces::read(alloc, sheet.recording.logs(), account.client)?;
-            told_shown(alloc, sheet, prepared, &tap, pid, fault, account)
-        }
-    }
+    let tap = tap_at(alloc, sheet.recording, prepared, account.client)?;
+    told_shown(alloc, sheet, prepared, tap.places(), pid, fault, account)
 }
 
 /// Those of a fault of what the client's tap tells of the session, none where it tells of no such fault.

@@ -3,7 +3,7 @@ ghost use Rattle.std.specs.Prelude.{◌≡◌, IfOk, IfSome, MatchOption, None, 
 ghost use Rattle.aud_rows.specs.Seen.{row_seen};
 ghost use Rattle.aud_rows.specs.ClientPlaces.{AreOf};
 ghost use Rattle.aud_session_facts.specs.RowLists.{AreTrueRows};
-ghost use Rattle.aud_findings.specs.ShowsFrame.{ShowsFrame, bad_number, frame_rows};
+ghost use Rattle.aud_findings.specs.ShowsFrame.{ShowsFrame, bad_number};
 
 use aud_client::Recording;
 use aud_rows::{ClientPlaces, Role, Row, Sheet};
@@ -27,29 +27,13 @@ pub fn frame_shown<'r>(
 {
     match bad_number(sheet.recording, tap.place) {
         Some(_) => {
-            let rows = frame_rows(alloc, sheet, tap)?;
+            let mut rows = Vec::new(alloc);
+            push_row(&mut rows, sheet.lacking_row(alloc, tap, Role::Earlier)?)?;
+            push_row(&mut rows, sheet.bad_row(tap, Role::Fault))?;
             Ok(Some(rows))
         }
         None => Ok(None),
     }
-}
-
-/// The row of the packet that lacks attachments, if there is one, and of the record that is no packet.
-fn frame_rows<'r>(
-    alloc: Global,
-    sheet: &Sheet<'r, '_>,
-    tap: &ClientPlaces,
-) -> Result<Vec<Row<'r>>, AllocError>
-    requires { AreOf sheet.now.recording.now tap.now }
-    ensures rows { IfOk result (λ rows. map row_seen rows.items
-        ≡ frame_rows sheet.now.recording.now sheet.now.lines.now tap.now.place) }
-    ensures truth { IfOk result (λ rows.
-        AreTrueRows sheet.now.recording.now sheet.now.lines.now rows.items) }
-{
-    let mut rows = Vec::new(alloc);
-    push_row(&mut rows, sheet.lacking_row(alloc, tap, Role::Earlier)?)?;
-    push_row(&mut rows, sheet.bad_row(tap, Role::Fault))?;
-    Ok(rows)
 }
 
 /// The number of the first record of the client's tap at this place that is no packet.

@@ -48,6 +48,7 @@ mod others;
 mod outcome;
 mod prepared;
 mod ranges;
+mod record_at;
 mod replies;
 mod rooms;
 mod tail;

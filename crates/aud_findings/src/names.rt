@@ -5,14 +5,14 @@ ghost use Rattle.aud_check.specs.NamedStays.{has_sid};
 ghost use Rattle.aud_node.specs.Stream.{Text};
 ghost use Rattle.aud_session_facts.specs.declared.marks.TurnMark.{TurnMark};
 ghost use Rattle.aud_session_facts.specs.Marks.{turn_marks};
-ghost use Rattle.aud_session_facts.specs.Places.{record_at};
 ghost use Rattle.aud_rows.specs.Seen.{row_seen};
 ghost use Rattle.aud_rows.specs.ClientPlaces.{AreOf};
 ghost use Rattle.aud_rows.specs.StayRows.{stays_at};
 ghost use Rattle.aud_session_facts.specs.RowLists.{AreTrueRows};
-ghost use Rattle.aud_findings.specs.ShowsNames.{AreNamedAlike, IsOpenedAs, ShowsNames, first_otherwise, is_named_otherwise, is_open, is_open_mark, is_some_otherwise, names_rows};
+ghost use Rattle.aud_findings.specs.ShowsNames.{AreNamedAlike, IsOpenedAs, ShowsNames, first_otherwise, is_open_mark, is_some_otherwise};
 
-use crate::replies::{numbers_naming, stay_at};
+use crate::record_at::{record_at, stay_at};
+use crate::replies::numbers_naming;
 use aud_client::{Recording, Reply, Stay};
 use aud_node::Logs;
 use aud_rows::{ClientPlaces, Role, Row, Sheet};
@@ -51,30 +51,15 @@ pub fn names_shown<'r>(
         return Ok(None);
     };
     match first_otherwise(sheet.recording, tap.place, numbers, pid, opened) {
-        Some(stay) => Ok(Some(names_rows(alloc, sheet, tap, opened.mark, stay)?)),
+        Some(stay) => {
+            let mut rows = Vec::new(alloc);
+            let RecordPlace { node, number } = opened.mark.place;
+            push_row(&mut rows, sheet.node_row(node, number, Role::Earlier))?;
+            push_row(&mut rows, sheet.reply_row(tap, stay, Role::Fault))?;
+            Ok(Some(rows))
+        }
         None => Ok(None),
     }
-}
-
-/// The rows of the `open` and of the reply.
-fn names_rows<'r>(
-    alloc: Global,
-    sheet: &Sheet<'r, '_>,
-    tap: &ClientPlaces,
-    opening: TurnMark,
-    stay: usize,
-) -> Result<Vec<Row<'r>>, AllocError>
-    requires { AreOf sheet.now.recording.now tap.now }
-    ensures rows { IfOk result (λ rows. map row_seen rows.items
-        ≡ names_rows sheet.now.recording.now sheet.now.lines.now opening tap.now.place stay) }
-    ensures truth { IfOk result (λ rows.
-        AreTrueRows sheet.now.recording.now sheet.now.lines.now rows.items) }
-{
-    let mut rows = Vec::new(alloc);
-    let RecordPlace { node, number } = opening.place;
-    push_row(&mut rows, sheet.node_row(node, number, Role::Earlier))?;
-    push_row(&mut rows, sheet.reply_row(tap, stay, Role::Fault))?;
-    Ok(rows)
 }
 
 /// How the first of these records that opens a session opens this one.
@@ -87,7 +72,7 @@ fn opened_as<'a>(logs: &Logs<'a>, marks: &[TurnMark], pid: &str) -> Option<Opene
     let Some(mark) = first_open(marks) else {
         return None;
     };
-    match record_at(logs, mark.place) {
+    match record_at(logs, mark.place.node, mark.place.number) {
         Some(
             NodeRec::Opened {
                 pid: other,
@@ -107,31 +92,10 @@ fn opened_as<'a>(logs: &Logs<'a>, marks: &[TurnMark], pid: &str) -> Option<Opene
 fn first_open(marks: &[TurnMark]) -> Option<TurnMark>
     ensures { result ≡ find is_open_mark marks.now }
 {
-    for mark in marks {
-        if is_open(mark.mark) {
-            return Some(*mark);
-        }
-    }
-    None
-}
-
-fn is_open(mark: Mark) -> bool
-    ensures { result ≡ is_open mark }
-{
-    match mark {
-        Mark::Open => true,
-        _ => false,
-    }
-}
-
-/// The record at this place, borrowed; none where there is none.
-fn record_at<'a>(logs: &Logs<'a>, place: RecordPlace) -> Option<&'a NodeRec>
-    ensures { option_copied result ≡ record_at logs.now place }
-{
-    match logs.node(place.node) {
-        Some(log) => log.recs().get(place.number),
-        None => None,
-    }
+    marks
+        .iter()
+        .copied()
+        .find(|mark| matches!(mark.mark, Mark::Open))
 }
 
 /// The number of the first of these stays whose reply names the session otherwise than this.
@@ -147,29 +111,25 @@ fn first_otherwise(
         (stays_at recording.now place) numbers.now }
 {
     for number in numbers {
-        if is_some_otherwise(stay_at(recording, place, *number), pid, opened) {
+        if is_named_otherwise(stay_at(recording, place, *number), pid, opened) {
             return Some(*number);
         }
     }
     None
 }
 
-fn is_some_otherwise(stay: Option<&Stay<'_>>, pid: &str, opened: OpenedAs<'_>) -> bool
+/// Whether there is a stay, and its reply names the session otherwise than this.
+fn is_named_otherwise(stay: Option<&Stay<'_>>, pid: &str, opened: OpenedAs<'_>) -> bool
     ensures { result ≡ is_some_otherwise
         (record { pid = pid.now; sid = opened.entry.sid.now; nsp = opened.entry.nsp.now })
         (option_copied stay.entry) }
 {
     match stay {
-        Some(stay) => is_named_otherwise(stay, pid, opened.sid, opened.nsp),
+        Some(stay) => {
+            stay.names(pid) && !(stay.nsp == opened.nsp && has_sid(&stay.reply, opened.sid))
+        }
         None => false,
     }
-}
-
-fn is_named_otherwise(stay: &Stay<'_>, pid: &str, sid: &str, nsp: &str) -> bool
-    ensures { result ≡ is_named_otherwise
-        (record { pid = pid.now; sid = sid.now; nsp = nsp.now }) stay.now }
-{
-    stay.names(pid) && !(stay.nsp == nsp && has_sid(&stay.reply, sid))
 }
 
 /// Whether there is a reply, and it has this sid.

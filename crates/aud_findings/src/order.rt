@@ -1,5 +1,5 @@
 //! What shows that a node on which a session was is out of order.
-ghost use Rattle.std.specs.Prelude.{◌≡◌, ◌++◌, ◌∷◌, [], IfOk, IfSome, MatchOption, OnOk, map, slice_get};
+ghost use Rattle.std.specs.Prelude.{◌≡◌, ◌++◌, ◌∷◌, [], IfOk, IfSome, MatchOption, OnOk, map};
 ghost use Rattle.aud_node.specs.OwnPlaces.{own_places};
 ghost use Rattle.aud_rows.specs.Seen.{row_seen};
 ghost use Rattle.aud_session_facts.specs.RowLists.{AreTrueRows};
@@ -31,7 +31,7 @@ pub fn order_shown<'r>(
         (λ rows. AreTrueRows sheet.now.recording.now sheet.now.lines.now rows.items)) }
 {
     let found = unordered_of(alloc, sheet.recording.logs(), prepared, pid)?;
-    match first_of(&found) {
+    match found.first().copied() {
         Some(at) => {
             let records = order_records(alloc, at)?;
             Ok(Some(node_rows(alloc, sheet, &records)?))
@@ -73,22 +73,9 @@ pub fn unordered_of(
     ensures { IfOk result (λ found.
         AreOutOfOrder logs.now (own_places logs.now pid.now) found.items) }
 {
-    unordered_among(alloc, logs, prepared, logs.nodes_of(pid))
-}
-
-/// The same of these nodes.
-fn unordered_among(
-    alloc: Global,
-    logs: &Logs<'_>,
-    prepared: &Prepared,
-    nodes: &[usize],
-) -> Result<Vec<RecordPlace>, AllocError>
-    requires { IsPreparedOf logs.now prepared.now }
-    ensures { IfOk result (λ found. AreOutOfOrder logs.now nodes.now found.items) }
-{
     let mut found = Vec::new(alloc);
-    for node in nodes {
-        push_place(&mut found, *node, unordered_at(prepared, logs, *node))?;
+    for node in logs.nodes_of(pid) {
+        push_place(&mut found, *node, unordered_at(logs, prepared, *node))?;
     }
     Ok(found)
 }
@@ -108,19 +95,12 @@ fn push_place(
     Ok(())
 }
 
-/// The first of these records.
-fn first_of(found: &[RecordPlace]) -> Option<RecordPlace>
-    ensures { result ≡ slice_get found.now 0 }
-{
-    found.first().copied()
-}
-
 /// The number of the first record out of order of the node at this place.
-fn unordered_at(prepared: &Prepared, logs: &Logs<'_>, node: usize) -> Option<usize>
+fn unordered_at(logs: &Logs<'_>, prepared: &Prepared, node: usize) -> Option<usize>
     requires { IsPreparedOf logs.now prepared.now }
     ensures { IsOrderRead logs.now node result }
 {
-    match prepared.at(node) {
+    match prepared.taps.get(node) {
         Some(PreparedTap::Order { unordered }) => *unordered,
         _ => first_unordered(logs, node),
     }

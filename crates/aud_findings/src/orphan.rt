@@ -1,16 +1,16 @@
 //! What shows that a client's tap has an event of which nobody knows the session.
-ghost use Rattle.std.specs.Prelude.{◌≡◌, IfOk, IfSome, MatchOption, None, map};
+ghost use Rattle.std.specs.Prelude.{◌≡◌, IfOk, IfSome, MatchOption, None, map, position};
 ghost use Rattle.aud_node.specs.Lists.{first_index};
-ghost use Rattle.aud_client.specs.Received.{is_orphan, names_somebody};
+ghost use Rattle.aud_client.specs.Received.{is_orphan};
 ghost use Rattle.aud_rows.specs.Seen.{row_seen};
 ghost use Rattle.aud_rows.specs.ClientPlaces.{AreOf};
 ghost use Rattle.aud_rows.specs.StayRows.{stays_at};
 ghost use Rattle.aud_session_facts.specs.RowLists.{AreTrueRows};
 ghost use Rattle.aud_findings.specs.Prepared.{IsPreparedOf};
-ghost use Rattle.aud_findings.specs.ShowsOrphan.{ShowsOrphan, orphan_rows};
+ghost use Rattle.aud_findings.specs.ShowsOrphan.{ShowsOrphan};
 
 use crate::prepared::{Prepared, PreparedTap};
-use aud_client::{IndexedTranscript, Recording, Reply, Stay};
+use aud_client::{Recording, Stay};
 use aud_rows::{ClientPlaces, Role, Row, Sheet};
 use aud_session_facts::push_row;
 use std::alloc::{AllocError, Global};
@@ -34,30 +34,16 @@ pub fn orphan_shown<'r>(
         (λ rows. AreTrueRows sheet.now.recording.now sheet.now.lines.now rows.items)) }
 {
     match orphan_in(sheet.recording, prepared, tap.place) {
-        Some(stay) => Ok(Some(orphan_rows(alloc, sheet, tap, stay)?)),
+        Some(stay) => {
+            let mut rows = Vec::new(alloc);
+            push_row(&mut rows, sheet.ask_row(tap, stay, Role::Ask))?;
+            push_row(&mut rows, sheet.reply_row(tap, stay, Role::Reply))?;
+            push_row(&mut rows, sheet.frame_row(tap, stay, 0, Role::Fault))?;
+            push_row(&mut rows, sheet.lost_row(tap, stay, Role::Later))?;
+            Ok(Some(rows))
+        }
         None => Ok(None),
     }
-}
-
-/// The rows of the stay.
-fn orphan_rows<'r>(
-    alloc: Global,
-    sheet: &Sheet<'r, '_>,
-    tap: &ClientPlaces,
-    stay: usize,
-) -> Result<Vec<Row<'r>>, AllocError>
-    requires { AreOf sheet.now.recording.now tap.now }
-    ensures rows { IfOk result (λ rows. map row_seen rows.items
-        ≡ orphan_rows sheet.now.recording.now sheet.now.lines.now tap.now.place stay) }
-    ensures truth { IfOk result (λ rows.
-        AreTrueRows sheet.now.recording.now sheet.now.lines.now rows.items) }
-{
-    let mut rows = Vec::new(alloc);
-    push_row(&mut rows, sheet.ask_row(tap, stay, Role::Ask))?;
-    push_row(&mut rows, sheet.reply_row(tap, stay, Role::Reply))?;
-    push_row(&mut rows, sheet.frame_row(tap, stay, 0, Role::Fault))?;
-    push_row(&mut rows, sheet.lost_row(tap, stay, Role::Later))?;
-    Ok(rows)
 }
 
 /// The number, in the client's tap at this place, of its first stay that has events and whose reply, if there is one,
@@ -67,54 +53,39 @@ pub fn orphan_in(recording: &Recording<'_>, prepared: &Prepared, place: usize) -
     requires { IsPreparedOf recording.now prepared.now }
     ensures { result ≡ first_index is_orphan (stays_at recording.now place) }
 {
-    match prepared.at(place) {
+    match prepared.taps.get(place) {
         Some(PreparedTap::Client { orphan, .. }) => *orphan,
         _ => orphan_at(recording, place),
     }
 }
 
 /// The same, found in its stays.
-#[tactic(auto, using(crate::proofs::Told::told_some, crate::proofs::Told::told_none))]
+#[tactic(auto, using(crate::proofs::Told::told_some, crate::proofs::Told::told_none, crate::proofs::Firsts::first_position))]
 pub(crate) fn orphan_at(recording: &Recording<'_>, place: usize) -> Option<usize>
     ensures { result ≡ first_index is_orphan (stays_at recording.now place) }
 {
     match recording.client(place) {
-        Some(client) => orphan_told(client),
+        Some(client) => first_orphan(&client.transcript().stays),
         None => None,
     }
 }
 
-/// The number of the first such stay that a client's tap tells.
-fn orphan_told(client: &IndexedTranscript<'_>) -> Option<usize>
-    ensures { result ≡ first_index is_orphan client.now.stays }
-{
-    first_orphan(&client.transcript().stays)
-}
-
 /// The number of the first stay that has frames, and a reply that names nobody or none; stays count from 0.
 fn first_orphan(stays: &[Stay<'_>]) -> Option<usize>
-    ensures { result ≡ first_index is_orphan stays.now }
+    ensures { result ≡ position is_orphan stays.now }
 {
-    for (number, stay) in stays.iter().enumerate() {
-        if is_orphan(stay) {
-            return Some(number);
-        }
-    }
-    None
+    stays.iter().position(|stay| is_orphan(stay))
 }
 
 /// Whether the stay has frames, and its reply, if there is one, names nobody.
 fn is_orphan(stay: &Stay<'_>) -> bool
     ensures { result ≡ is_orphan stay.now }
 {
-    !stay.frames.is_empty() && !names_somebody(&stay.reply)
-}
-
-fn names_somebody(reply: &Option<Reply>) -> bool
-    ensures { result ≡ names_somebody reply.now }
-{
-    match reply {
-        Some(reply) => reply.pid.is_some(),
-        None => false,
+    if stay.frames.is_empty() {
+        return false;
+    }
+    match stay.reply.as_ref() {
+        Some(reply) => reply.pid.is_none(),
+        None => true,
     }
 }

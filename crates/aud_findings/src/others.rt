@@ -1,7 +1,7 @@
 //! Which other entries have the same fault.
 ghost use Rattle.std.specs.Prelude.{◌≡◌, ◌&&◌, ℕ, List, IfOk, OnOk, cond, filter, nat_eq, nat_lt, true};
 ghost use Rattle.std.specs.HashSet as hash;
-ghost use Rattle.aud_check.specs.Difference.{IsAscending, has_position};
+ghost use Rattle.aud_check.specs.Difference.{has_position};
 ghost use Rattle.aud_findings.specs.Also.{AreAllOf, is_also};
 ghost use Rattle.aud_findings.specs.Private.Seen.{AreSeen, is_also_by};
 
@@ -31,46 +31,31 @@ pub(crate) fn others(
     due: &[u64],
     difference: Difference,
 ) -> Result<Vec<u64>, AllocError>
-    ensures { IsAscending due.now → IfOk result (λ found.
+    ensures { IfOk result (λ found.
         AreAllOf (is_also received.now due.now difference) found.items) }
 {
     match difference {
-        Difference::Extra { .. } => undue(alloc, keys, received, due, difference),
-        _ => owed(alloc, keys, received, due, difference),
+        Difference::Extra { .. } => among(alloc, keys, received, due, difference),
+        _ => among(alloc, keys, due, received, difference),
     }
 }
 
-/// Those that were received and have it, against those due: ascending, each once.
-fn undue(
+/// Those of the positions that have it, against the others: ascending, each once.
+fn among(
     alloc: Global,
     keys: RandomState,
-    received: &[u64],
-    due: &[u64],
+    positions: &[u64],
+    against: &[u64],
     difference: Difference,
 ) -> Result<Vec<u64>, AllocError>
     ensures { IfOk result (λ found. AreAllOf
-        (λ p. has_position received.now p && is_also_by due.now difference p) found.items) }
+        (λ p. has_position positions.now p && is_also_by against.now difference p) found.items) }
 {
-    let seen = seen_in(alloc, keys, due)?;
-    let mut found = all_others(alloc, &seen, received, difference)?;
+    let seen = seen_in(alloc, keys, against)?;
+    let mut found = all_others(alloc, &seen, positions, difference)?;
     found.sort_unstable();
     found.dedup();
     Ok(found)
-}
-
-/// Those that were due and have it, against those that were received.
-fn owed(
-    alloc: Global,
-    keys: RandomState,
-    received: &[u64],
-    due: &[u64],
-    difference: Difference,
-) -> Result<Vec<u64>, AllocError>
-    ensures { IsAscending due.now → IfOk result (λ found. AreAllOf
-        (λ p. has_position due.now p && is_also_by received.now difference p) found.items) }
-{
-    let seen = seen_in(alloc, keys, received)?;
-    all_others(alloc, &seen, due, difference)
 }
 
 /// Those of the positions that have it, against those that were seen.

@@ -21,7 +21,7 @@ use aud_verdict::Verdict;
 use std::alloc::{AllocError, Global};
 
 /// Other entries, one after the other in the stream, that have the fault too.
-#[derive(Debug, Drop)]
+#[derive(Drop)]
 pub struct AlsoShown {
     /// The first of them; positions count from 1.
     pub position: u64,
@@ -33,7 +33,7 @@ pub struct AlsoShown {
 }
 
 /// The other entries that have the fault too.
-#[derive(Debug, Drop)]
+#[derive(Drop)]
 pub struct OthersShown {
     /// The first hundred ranges of them at most, ascending.
     pub ranges: Vec<AlsoShown>,
@@ -84,7 +84,7 @@ pub fn outcome_of<'r, 'a>(
 {
     let evidence = evidence_of(alloc, &sheet, prepared, pid, verdict, account)?;
     let client = client_of(alloc, &sheet, pid, &evidence)?;
-    let received = received_shown(alloc, verdict, account)?;
+    let received = received_shown(alloc, account, verdict)?;
     let also = also_found(alloc, &sheet, prepared, pid, verdict, account)?;
     Ok(Outcome {
         client,

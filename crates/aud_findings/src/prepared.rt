@@ -1,11 +1,12 @@
 //! What is read once of a recording for all its explanations.
-ghost use Rattle.std.specs.Prelude.{◌≡◌, Bool, true, false, IfOk, IfSome, length, slice_get};
+ghost use Rattle.std.specs.Prelude.{◌≡◌, IfOk, IfSome, length};
 ghost use Rattle.std.specs.List.{AllZip};
 ghost use Rattle.std.specs.Option.{option_copied};
 ghost use Rattle.aud_base.specs.Lists.{numbers_from};
 ghost use Rattle.aud_node.specs.Cluster.{Cluster};
 ghost use Rattle.aud_rows.specs.ClientPlaces.{AreOf};
-ghost use Rattle.aud_findings.specs.Prepared.{AreRead, IsPreparedOf, IsRead, client_of, tap_in};
+ghost use Rattle.aud_findings.specs.Prepared.{AreRead, IsPreparedOf, IsRead, tap_in};
+ghost use Rattle.aud_findings.specs.Private.Held.{held_places};
 ghost use Rattle.aud_findings.specs.Private.Wanted.{AreWanted, IsReadBy};
 
 use crate::orphan::orphan_at;
@@ -17,14 +18,14 @@ use std::alloc::{AllocError, Global};
 
 /// What the explanations of a recording are made from beside the recording: read once, whatever number of sessions is
 /// explained.
-#[derive(Debug, Drop)]
+#[derive(Drop)]
 pub struct Prepared {
     /// What was read of each tap, by its place, which counts from 0 in the order of the headers.
     pub taps: Vec<PreparedTap>,
 }
 
 /// What was read of a tap.
-#[derive(Debug, Drop)]
+#[derive(Drop)]
 pub enum PreparedTap {
     /// Of a client's tap that was asked for: where its packets stand, and the number of its first stay that has events
     /// and whose reply, if there is one, names nobody.
@@ -39,6 +40,25 @@ pub enum PreparedTap {
     },
     /// Nothing.
     Unread,
+}
+
+/// Where the packets of a client's tap stand, as they were prepared, or as they were read now.
+#[derive(Drop)]
+pub(crate) enum HeldTap<'p> {
+    Kept(&'p ClientPlaces),
+    Read(ClientPlaces),
+}
+
+impl HeldTap<'_> {
+    /// Where they stand.
+    pub fn places(&self) -> &ClientPlaces
+        ensures { result.now ≡ held_places self.now }
+    {
+        match self {
+            HeldTap::Kept(places) => *places,
+            HeldTap::Read(places) => places,
+        }
+    }
 }
 
 impl Prepared {
@@ -68,30 +88,33 @@ impl Prepared {
         self.tap_in(place)
     }
 
-    /// What was read of the tap at this place.
-    pub(crate) fn at(&self, place: usize) -> Option<&PreparedTap>
-        ensures { option_copied result ≡ slice_get self.now.taps.items place }
-    {
-        self.taps.get(place)
-    }
-
     fn tap_in(&self, place: usize) -> Option<&ClientPlaces>
         ensures { option_copied result ≡ tap_in self.now place }
     {
-        match self.at(place) {
-            Some(tap) => client_of(tap),
-            None => None,
+        match self.taps.get(place)? {
+            PreparedTap::Client { places, .. } => Some(places),
+            _ => None,
         }
     }
 }
 
-/// Where the packets of a client's tap stand, if that was read.
-fn client_of(tap: &PreparedTap) -> Option<&ClientPlaces>
-    ensures { option_copied result ≡ client_of tap.now }
+/// Where the packets of the client's tap at this place stand. A tap that wasn't prepared is read.
+pub(crate) fn tap_at<'p>(
+    alloc: Global,
+    recording: &Recording<'_>,
+    prepared: &'p Prepared,
+    place: usize,
+) -> Result<HeldTap<'p>, AllocError>
+    requires { IsPreparedOf recording.now prepared.now }
+    ensures is_of { IfOk result (λ tap. AreOf recording.now (held_places tap)) }
+    ensures place { IfOk result (λ tap. (held_places tap).place ≡ place) }
 {
-    match tap {
-        PreparedTap::Client { places, .. } => Some(places),
-        _ => None,
+    match prepared.tap(place) {
+        Some(places) => Ok(HeldTap::Kept(places)),
+        None => {
+            let places = ClientPlaces::read(alloc, recording.logs(), place)?;
+            Ok(HeldTap::Read(places))
+        }
     }
 }
 
@@ -108,28 +131,15 @@ fn read_taps(
     let count = recording.logs().taps().len();
     let mut taps = Vec::with_capacity(alloc, count)?;
     for place in 0..count {
-        let tap = read_tap(alloc, recording, wanted, orders, place)?;
+        let asked = is_wanted(wanted, place);
+        let tap = read_tap(alloc, recording, asked, orders, place)?;
         taps.push(tap)?;
     }
     Ok(taps)
 }
 
-/// What is read of the tap at this place, where these are wanted.
+/// What is read of the tap at this place, where it is asked for or isn't, and the orders of nodes are or aren't.
 fn read_tap(
-    alloc: Global,
-    recording: &Recording<'_>,
-    wanted: &[bool],
-    orders: bool,
-    place: usize,
-) -> Result<PreparedTap, AllocError>
-    ensures { IfOk result (IsReadBy recording.now wanted.now orders place) }
-{
-    let asked = is_wanted(wanted, place);
-    read_asked(alloc, recording, asked, orders, place)
-}
-
-/// What is read of it, where it is asked for or isn't.
-fn read_asked(
     alloc: Global,
     recording: &Recording<'_>,
     asked: bool,
@@ -139,32 +149,14 @@ fn read_asked(
     ensures { IfOk result (IsRead recording.now asked orders place) }
 {
     if asked {
-        return read_client(alloc, recording, place);
+        let places = ClientPlaces::read(alloc, recording.logs(), place)?;
+        let orphan = orphan_at(recording, place);
+        return Ok(PreparedTap::Client { places, orphan });
     }
-    Ok(read_order(recording, orders, place))
-}
-
-/// Of a client's tap that was asked for.
-fn read_client(
-    alloc: Global,
-    recording: &Recording<'_>,
-    place: usize,
-) -> Result<PreparedTap, AllocError>
-    ensures { (orders : Bool) → IfOk result (IsRead recording.now true orders place) }
-{
-    let places = ClientPlaces::read(alloc, recording.logs(), place)?;
-    let orphan = orphan_at(recording, place);
-    Ok(PreparedTap::Client { places, orphan })
-}
-
-/// Of another tap.
-fn read_order(recording: &Recording<'_>, orders: bool, place: usize) -> PreparedTap
-    ensures { IsRead recording.now false orders place result }
-{
     if !orders {
-        return PreparedTap::Unread;
+        return Ok(PreparedTap::Unread);
     }
-    PreparedTap::Order {
+    Ok(PreparedTap::Order {
         unordered: first_unordered(recording.logs(), place),
-    }
+    })
 }

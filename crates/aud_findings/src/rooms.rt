@@ -1,12 +1,11 @@
 //! The changes of rooms that decide whether an entry was due to a session.
 ghost use Rattle.std.specs.Prelude.{◌≡◌, map, option_map};
 ghost use Rattle.std.specs.List.{find};
-ghost use Rattle.std.specs.Option.{option_copied};
 ghost use Rattle.aud_node.specs.Stream.{entry};
 ghost use Rattle.aud_cert.specs.Certificate.{turn_at};
 ghost use Rattle.aud_maker.specs.Made.{IsMade};
 ghost use Rattle.aud_session_facts.specs.NotDue.{reason_of};
-ghost use Rattle.aud_findings.specs.RoomChanges.{change_for, change_in, is_changed, left_change, not_due_change, only_if, reach_of, room_change, rooms_in, turn_end};
+ghost use Rattle.aud_findings.specs.RoomChanges.{change_for, change_in, is_changed, left_change, not_due_change, reach_of, room_change, rooms_in};
 
 use aud_cert::{Certificate, Turn, turn_place};
 use aud_node::Logs;
@@ -40,7 +39,11 @@ pub(crate) fn left_change(
     let turns = cert.turns.as_slice();
     let reach = reach_of(logs, turns, position)?;
     let room = first_room(logs, cert, reach, true, rooms_at(logs, position))?;
-    let end = turn_end(logs, turns, reach)?;
+    let turn = turns.get(reach.turn)?;
+    let end = Reach {
+        number: turn_place(logs, turn).to,
+        ..reach
+    };
     change_in(logs, cert, end, false, room)
 }
 
@@ -87,17 +90,6 @@ pub(crate) fn reach_of(logs: &Logs<'_>, turns: &[Turn<'_>], position: u64) -> Op
     first_reach(logs, turns, position)
 }
 
-/// The end of the turn in which the position was reached: after the turn's last record.
-fn turn_end(logs: &Logs<'_>, turns: &[Turn<'_>], reach: Reach) -> Option<Reach>
-    ensures { result ≡ turn_end (map (turn_at logs.now) turns.now) reach }
-{
-    let place = turn_place(logs, turns.get(reach.turn)?);
-    Some(Reach {
-        number: place.to,
-        ..reach
-    })
-}
-
 /// The first of these rooms whose last change before the reach is a join or a leave as asked for.
 fn first_room<'e>(
     logs: &Logs<'_>,
@@ -127,16 +119,7 @@ fn change_in(
 ) -> Option<RoomChange>
     ensures { result ≡ change_in logs.now cert.now reach joined room.now }
 {
-    match last_change_of(logs, cert.pid.as_str(), cert.turns.as_slice(), reach, room) {
-        Some(change) => only_if(joined, change),
-        None => None,
-    }
-}
-
-/// The change, where it is a join or a leave as asked for.
-fn only_if(joined: bool, change: RoomChange) -> Option<RoomChange>
-    ensures { result ≡ only_if joined change }
-{
+    let change = last_change_of(logs, cert.pid.as_str(), cert.turns.as_slice(), reach, room)?;
     if change.joined == joined {
         Some(change)
     } else {
@@ -148,13 +131,7 @@ fn only_if(joined: bool, change: RoomChange) -> Option<RoomChange>
 fn rooms_at<'a>(logs: &Logs<'a>, position: u64) -> &'a [Text]
     ensures { result.now ≡ rooms_in (entry logs.now.stream position) }
 {
-    rooms_in(logs.stream().entry(position))
-}
-
-fn rooms_in(entry: Option<&StreamRec>) -> &[Text]
-    ensures { result.now ≡ rooms_in (option_copied entry.entry) }
-{
-    match entry {
+    match logs.stream().entry(position) {
         Some(StreamRec::Ev(event)) => event.rooms.as_slice(),
         _ => &[],
     }

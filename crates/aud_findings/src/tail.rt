@@ -104,13 +104,10 @@ fn tail_in(alloc: Global, received: &[u64], due: &[u64]) -> Result<Vec<u64>, All
     ensures { IfOk result (λ tail. tail.items ≡ tail_positions received.now due.now) }
 {
     let last = greatest(received);
-    let mut tail = Vec::new(alloc);
-    for position in due {
-        if last < *position {
-            tail.push(*position)?;
-        }
-    }
-    Ok(tail)
+    due.iter()
+        .copied()
+        .filter(|position| last < *position)
+        .collect(alloc)
 }
 
 /// The positions after the first.

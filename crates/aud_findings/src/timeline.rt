@@ -4,8 +4,6 @@ pub mod chain;
 pub mod events;
 pub mod laws;
 pub mod marks;
-pub mod order;
-pub mod record_at;
 pub mod refused;
 pub mod runs;
 pub mod shown;

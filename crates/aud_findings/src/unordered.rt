@@ -1,14 +1,14 @@
 //! The first record of a node's log that is out of order.
-ghost use Rattle.std.specs.Prelude.{◌≡◌, ◌<◌, MatchOption, is_some, length, suc};
+ghost use Rattle.std.specs.Prelude.{◌≡◌, MatchOption, is_some, suc};
 ghost use Rattle.std.specs.Option.{option_copied};
 ghost use Rattle.aud_node.specs.Cluster.{node_log};
-ghost use Rattle.aud_node.specs.Cursors.{cursor_at, is_position, position_if_past};
+ghost use Rattle.aud_node.specs.Cursors.{is_position, position_if_past};
 ghost use Rattle.aud_node.specs.Ordered.{is_in_order, is_some_in_order};
 ghost use Rattle.aud_node.specs.Stream.{position};
-ghost use Rattle.aud_findings.specs.Order.{IsFirstOutOfOrder, AreInOrder, starts_in_order};
+ghost use Rattle.aud_findings.specs.Order.{IsFirstOutOfOrder, AreInOrder};
 
 use aud_node::{Logs, NodeLog, Stream};
-use aud_tap::{NodeRec, Text};
+use aud_tap::NodeRec;
 
 /// The number of the first record out of order in the log of the node at this place: a first record that is no `start`
 /// of the stream's begin or of one of its entries; a later `start`; a `take` that isn't of the position after the
@@ -36,17 +36,9 @@ fn first_out_of_order(log: &NodeLog<'_>, stream: &Stream<'_>) -> Option<usize>
         if !is_some_in_order(stream, number, cursor, recs.get(number)) {
             return Some(number);
         }
-        cursor = cursor_after(log, number);
+        cursor = log.cursor_after(number).unwrap_or(0);
     }
     None
-}
-
-/// The cursor after the record with this number.
-fn cursor_after(log: &NodeLog<'_>, number: usize) -> u64
-    requires { number < length log.now.recs }
-    ensures { result ≡ cursor_at log.now.stream log.now.recs (suc number) }
-{
-    log.cursor_after(number).unwrap_or(0)
 }
 
 /// Whether there is a record, and it is in order after this cursor.
@@ -74,20 +66,11 @@ fn is_in_order(stream: &Stream<'_>, number: usize, cursor: u64, rec: &NodeRec) -
     ensures { result ≡ is_in_order stream.now number cursor rec.now }
 {
     match rec {
-        NodeRec::Start { off } => number == 0 && starts_in_order(stream, off.as_ref()),
+        NodeRec::Start { off: None } => number == 0,
+        NodeRec::Start { off: Some(off) } => number == 0 && stream.position(off.as_str()).is_some(),
         NodeRec::Take { off } => number != 0 && is_next(stream, cursor, off.as_str()),
         NodeRec::Takes { off } => number != 0 && is_past(stream, cursor, off.as_str()),
         _ => number != 0,
-    }
-}
-
-/// Whether a node can begin so: at the stream's begin, or after one of its entries.
-fn starts_in_order(stream: &Stream<'_>, off: Option<&Text>) -> bool
-    ensures { result ≡ starts_in_order stream.now (option_copied off.entry) }
-{
-    match off {
-        Some(off) => stream.position(off.as_str()).is_some(),
-        None => true,
     }
 }
 

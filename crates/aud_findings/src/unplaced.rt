@@ -1,5 +1,5 @@
 //! What shows that no node opened a session, or that not exactly one client had it.
-ghost use Rattle.std.specs.Prelude.{◌≡◌, ◌++◌, IfOk, IfSome, List, OnOk, flat_map, length, map, option_map};
+ghost use Rattle.std.specs.Prelude.{◌≡◌, ◌++◌, IfOk, IfSome, List, OnOk, length, map, option_map};
 ghost use Rattle.aud_client.specs.Replies.{naming_places};
 ghost use Rattle.aud_rooms.specs.Turns.{HasNoTurn};
 ghost use Rattle.aud_rows.specs.Seen.{row_seen};
@@ -8,14 +8,14 @@ ghost use Rattle.aud_rows.specs.TrueRow.{IsTrueRow};
 ghost use Rattle.aud_session_facts.specs.RowLists.{AreTrueRows};
 ghost use Rattle.aud_session_facts.specs.ShowsDifference.{AreNumbersOf};
 ghost use Rattle.aud_findings.specs.Prepared.{IsPreparedOf};
-ghost use Rattle.aud_findings.specs.NamingReplies.{first_row_at, IsFirstReply, IsFirstReplyOf, naming_seen, replies_at, replies_of};
+ghost use Rattle.aud_findings.specs.NamingReplies.{first_row_at, IsFirstReply, replies_at};
 ghost use Rattle.aud_findings.specs.ChainRecords.{turn_record};
 ghost use Rattle.aud_findings.specs.ShowsClient.{ShowsClient};
 ghost use Rattle.aud_findings.specs.ShowsNoLog.{ShowsNoLog};
 
 use crate::chain::mark_role;
-use crate::prepared::Prepared;
-use crate::replies::{NamingTap, naming_taps, numbers_naming};
+use crate::prepared::{Prepared, tap_at};
+use crate::replies::numbers_naming;
 use aud_rows::{ClientPlaces, Role, Row, Sheet};
 use aud_session_facts::{NodeRecord, TurnMark, node_rows, push_row, push_rows, turn_marks};
 use std::alloc::{AllocError, Global};
@@ -49,14 +49,13 @@ pub fn no_log_rows<'r>(
 fn turn_records(alloc: Global, marks: &[TurnMark]) -> Result<Vec<NodeRecord>, AllocError>
     ensures { IfOk result (λ records. records.items ≡ map turn_record marks.now) }
 {
-    let mut records = Vec::new(alloc);
-    for mark in marks {
-        records.push(NodeRecord {
+    marks
+        .iter()
+        .map(|mark| NodeRecord {
             place: mark.place,
             role: mark_role(mark.mark),
-        })?;
-    }
-    Ok(records)
+        })
+        .collect(alloc)
 }
 
 /// The row of the first reply that names the session.
@@ -73,35 +72,12 @@ fn first_reply<'r>(
     ensures truth { IfOk result (λ row. IfSome row
         (IsTrueRow sheet.now.recording.now sheet.now.lines.now)) }
 {
-    match sheet.recording.naming(pid).first() {
-        Some(place) => first_reply_at(alloc, sheet, prepared, *place, pid),
-        None => Ok(None),
-    }
-}
-
-/// That of the tap at this place.
-fn first_reply_at<'r>(
-    alloc: Global,
-    sheet: &Sheet<'r, '_>,
-    prepared: &Prepared,
-    place: usize,
-    pid: &str,
-) -> Result<Option<Row<'r>>, AllocError>
-    requires { IsPreparedOf sheet.now.recording.now prepared.now }
-    ensures row { IfOk result (λ row.
-        IsFirstReplyOf sheet.now.recording.now sheet.now.lines.now pid.now place
-        (option_map row_seen row)) }
-    ensures truth { IfOk result (λ row. IfSome row
-        (IsTrueRow sheet.now.recording.now sheet.now.lines.now)) }
-{
-    let numbers = numbers_naming(sheet.recording, place, pid);
-    match prepared.tap(place) {
-        Some(tap) => Ok(first_row_in(sheet, tap, numbers)),
-        None => {
-            let tap = ClientPlaces::read(alloc, sheet.recording.logs(), place)?;
-            Ok(first_row_in(sheet, &tap, numbers))
-        }
-    }
+    let Some(place) = sheet.recording.naming(pid).first() else {
+        return Ok(None);
+    };
+    let numbers = numbers_naming(sheet.recording, *place, pid);
+    let tap = tap_at(alloc, sheet.recording, prepared, *place)?;
+    Ok(first_row_in(sheet, tap.places(), numbers))
 }
 
 /// The row of the reply of the first of these stays.
@@ -129,60 +105,20 @@ pub fn client_rows<'r>(
     ensures truth { IfOk result (λ rows.
         AreTrueRows sheet.now.recording.now sheet.now.lines.now rows.items) }
 {
-    let taps = naming_taps(alloc, sheet.recording, pid)?;
-    replies_of(alloc, sheet, prepared, &taps)
-}
-
-/// The rows of the replies in these taps.
-fn replies_of<'r>(
-    alloc: Global,
-    sheet: &Sheet<'r, '_>,
-    prepared: &Prepared,
-    taps: &[NamingTap<'_>],
-) -> Result<Vec<Row<'r>>, AllocError>
-    requires { IsPreparedOf sheet.now.recording.now prepared.now }
-    ensures rows { IfOk result (λ rows. map row_seen rows.items
-        ≡ flat_map (λ tap. replies_of sheet.now.recording.now sheet.now.lines.now
-        (naming_seen tap)) taps.now) }
-    ensures truth { IfOk result (λ rows.
-        AreTrueRows sheet.now.recording.now sheet.now.lines.now rows.items) }
-{
     let mut rows = Vec::new(alloc);
-    for tap in taps {
-        push_tap(alloc, &mut rows, sheet, prepared, tap)?;
+    for place in sheet.recording.naming(pid) {
+        let numbers = numbers_naming(sheet.recording, *place, pid);
+        let tap = tap_at(alloc, sheet.recording, prepared, *place)?;
+        push_replies(sheet, tap.places(), &mut rows, numbers)?;
     }
     Ok(rows)
 }
 
-/// Adds those of one tap.
-fn push_tap<'r>(
-    alloc: Global,
-    rows: &mut Vec<Row<'r>>,
-    sheet: &Sheet<'r, '_>,
-    prepared: &Prepared,
-    named: &NamingTap<'_>,
-) -> Result<(), AllocError>
-    requires { IsPreparedOf sheet.now.recording.now prepared.now }
-    ensures rows { OnOk result (map row_seen rows.new.items
-        ≡ map row_seen rows.old.items
-        ++ replies_of sheet.now.recording.now sheet.now.lines.now (naming_seen named.now)) }
-    ensures truth { AreTrueRows sheet.now.recording.now sheet.now.lines.now rows.old.items
-        → OnOk result (AreTrueRows sheet.now.recording.now sheet.now.lines.now rows.new.items) }
-{
-    match prepared.tap(named.place) {
-        Some(tap) => push_replies(rows, sheet, tap, named.numbers),
-        None => {
-            let tap = ClientPlaces::read(alloc, sheet.recording.logs(), named.place)?;
-            push_replies(rows, sheet, &tap, named.numbers)
-        }
-    }
-}
-
 /// Adds the rows of the replies of these stays.
 fn push_replies<'r>(
-    rows: &mut Vec<Row<'r>>,
     sheet: &Sheet<'r, '_>,
     tap: &ClientPlaces,
+    rows: &mut Vec<Row<'r>>,
     numbers: &[usize],
 ) -> Result<(), AllocError>
     requires { AreOf sheet.now.recording.now tap.now }

@@ -5,10 +5,10 @@ ghost use Rattle.aud_cert.specs.Certificate.{turn_at};
 ghost use Rattle.aud_findings.specs.ShownTurn.{turn_seen};
 ghost use Rattle.aud_findings.specs.ChainTurns.{chain_span, end_of, span_between, turn_shown, turns_shown};
 
-use crate::timeline::record_at::record_at;
+use crate::record_at::record_at;
 use crate::timeline::shown::{push_turn, span_shown};
 use crate::timeline::span::{Ends, TurnSpan};
-use aud_cert::Turn;
+use aud_cert::{Turn, turn_place};
 use aud_explanation::{TurnBegin, TurnShown};
 use aud_node::Logs;
 use aud_rooms::TurnPlace;
@@ -40,19 +40,8 @@ fn turn_shown<'r>(sheet: &Sheet<'r, '_>, turn: &Turn<'_>) -> Option<TurnShown<'r
         (turn_at sheet.now.recording.now turn.now) }
 {
     let logs = sheet.recording.logs();
-    let span = chain_span(logs, turn_at(logs, turn))?;
+    let span = chain_span(logs, turn_place(logs, turn))?;
     span_shown(sheet, span)
-}
-
-/// Where the turn stands in the logs.
-fn turn_at(logs: &Logs<'_>, turn: &Turn<'_>) -> TurnPlace
-    ensures { result ≡ turn_at logs.now turn.now }
-{
-    TurnPlace {
-        node: logs.place_of(turn.node).unwrap_or(logs.taps().len()),
-        from: turn.from as usize,
-        to: turn.to as usize,
-    }
 }
 
 /// The turn by its first record and its last one; none where the first begins no turn.

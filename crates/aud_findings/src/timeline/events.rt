@@ -5,12 +5,11 @@ ghost use Rattle.aud_client.specs.Replies.{is_this};
 ghost use Rattle.aud_node.specs.Stream.{position};
 ghost use Rattle.aud_rows.specs.ClientPlaces.{AreOf};
 ghost use Rattle.aud_rows.specs.Seen.{row_seen, says_seen};
-ghost use Rattle.aud_findings.specs.ClientEvents.{answered, asks_for, client_events, event_of, events_of_stays, frame_count, frame_events, happens_of, is_asked, may_be_of, received_events, row_events, stay_events};
+ghost use Rattle.aud_findings.specs.ClientEvents.{answered, asks_for, client_events, event_of, events_of_stays, frame_count, frame_events, happens_of, may_be_of, row_events, stay_events};
 
-use crate::timeline::order::sort_events;
-use crate::timeline::record_at::stay_at;
+use crate::record_at::stay_at;
 use crate::timeline::runs::joined_events;
-use aud_client::{Asked, Stay};
+use aud_client::Stay;
 use aud_explanation::{ClientEvent, Happens};
 use aud_node::Stream;
 use aud_rows::{ClientPlaces, Role, Row, Says, Sheet};
@@ -35,7 +34,7 @@ pub fn client_events(
         numbers.now) }
 {
     let mut events = events_of_stays(alloc, sheet, tap, pid, numbers)?;
-    sort_events(&mut events)?;
+    events.sort_by_key(|event| event.first)?;
     joined_events(alloc, events.as_slice())
 }
 
@@ -54,16 +53,16 @@ fn events_of_stays(
 {
     let mut events = Vec::new(alloc);
     for number in numbers {
-        push_stay(&mut events, sheet, tap, pid, *number)?;
+        push_stay(sheet, tap, &mut events, pid, *number)?;
     }
     Ok(events)
 }
 
 /// Adds what happened in the stay with this number.
 fn push_stay(
-    events: &mut Vec<ClientEvent>,
     sheet: &Sheet<'_, '_>,
     tap: &ClientPlaces,
+    events: &mut Vec<ClientEvent>,
     pid: &str,
     number: usize,
 ) -> Result<(), AllocError>
@@ -72,44 +71,25 @@ fn push_stay(
         ≡ events.old.items
         ++ stay_events sheet.now.recording.now sheet.now.lines.now tap.now.place pid.now number) }
 {
-    let stay = stay_at(sheet, tap.place, number);
+    let stay = stay_at(sheet.recording, tap.place, number);
     let asked = asks_for(pid, stay);
     let ask = sheet.ask_row(tap, number, Role::Ask);
-    push_row(events, sheet, pid, asked, ask)?;
+    push_row(sheet, events, pid, asked, ask)?;
     let reply = sheet.reply_row(tap, number, Role::Reply);
-    push_row(events, sheet, pid, asked, reply)?;
-    if may_be_of(pid, stay) {
-        push_received(events, sheet, tap, pid, number)
-    } else {
-        Ok(())
+    push_row(sheet, events, pid, asked, reply)?;
+    if !may_be_of(pid, stay) {
+        return Ok(());
     }
-}
-
-/// Adds the frames of the stay, and the loss of its connection.
-fn push_received(
-    events: &mut Vec<ClientEvent>,
-    sheet: &Sheet<'_, '_>,
-    tap: &ClientPlaces,
-    pid: &str,
-    number: usize,
-) -> Result<(), AllocError>
-    requires { AreOf sheet.now.recording.now tap.now }
-    ensures { OnOk result (events.new.items
-        ≡ events.old.items
-        ++ received_events sheet.now.recording.now sheet.now.lines.now tap.now.place pid.now
-        number) }
-{
-    push_frames(events, sheet, tap, pid, number)?;
-    let asked = asks_for(pid, stay_at(sheet, tap.place, number));
+    push_frames(sheet, tap, events, pid, number)?;
     let lost = sheet.lost_row(tap, number, Role::Later);
-    push_row(events, sheet, pid, asked, lost)
+    push_row(sheet, events, pid, asked, lost)
 }
 
 /// Adds the frames of the stay.
 fn push_frames(
-    events: &mut Vec<ClientEvent>,
     sheet: &Sheet<'_, '_>,
     tap: &ClientPlaces,
+    events: &mut Vec<ClientEvent>,
     pid: &str,
     number: usize,
 ) -> Result<(), AllocError>
@@ -118,19 +98,19 @@ fn push_frames(
         ≡ events.old.items
         ++ frame_events sheet.now.recording.now sheet.now.lines.now tap.now.place pid.now number) }
 {
-    let stay = stay_at(sheet, tap.place, number);
+    let stay = stay_at(sheet.recording, tap.place, number);
     let asked = asks_for(pid, stay);
     for frame in 0..frame_count(stay) {
         let row = sheet.frame_row(tap, number, frame, Role::Later);
-        push_row(events, sheet, pid, asked, row)?;
+        push_row(sheet, events, pid, asked, row)?;
     }
     Ok(())
 }
 
 /// Adds what happened in the row's record, if there is a row.
 fn push_row(
-    events: &mut Vec<ClientEvent>,
     sheet: &Sheet<'_, '_>,
+    events: &mut Vec<ClientEvent>,
     pid: &str,
     asked: bool,
     row: Option<Row<'_>>,
@@ -174,7 +154,7 @@ fn happens_of(stream: &Stream<'_>, pid: &str, asked: bool, says: Says<'_>) -> Op
         Says::Asks { off, .. } if asked => Some(Happens::Asks {
             after: after_asked(stream, off),
         }),
-        Says::Reply { pid: named, .. } => answered(asked, is_session(pid, named)),
+        Says::Reply { pid: named, .. } => answered(asked, pid, named),
         Says::Got { position, .. } => Some(Happens::Got {
             from: position,
             to: position,
@@ -192,40 +172,26 @@ fn after_asked(stream: &Stream<'_>, off: Option<&str>) -> Option<u64>
     stream.position(off?)
 }
 
-/// Whether there is a pid, and it is this one.
-fn is_session(pid: &str, named: Option<&str>) -> bool
-    ensures { result ≡ is_this pid.now (option_map (λ named. named.now) named.entry) }
+/// What the answer to a stay is, which asked for the session or didn't, by the session that it names, if it names one.
+fn answered(asked: bool, pid: &str, named: Option<&str>) -> Option<Happens>
+    ensures { result
+        ≡ answered asked (is_this pid.now (option_map (λ named. named.now) named.entry)) }
 {
     match named {
-        Some(named) => named == pid,
-        None => false,
+        Some(named) if named == pid => Some(Happens::Reply),
+        _ if asked => Some(Happens::Refused),
+        _ => None,
     }
-}
-
-/// What the answer to a stay is, which asked for the session or didn't, by whether it names the session.
-fn answered(asked: bool, is_session: bool) -> Option<Happens>
-    ensures { result ≡ answered asked is_session }
-{
-    if is_session {
-        return Some(Happens::Reply);
-    }
-    if asked { Some(Happens::Refused) } else { None }
 }
 
 /// Whether there is a stay, and it asked for the session.
 fn asks_for(pid: &str, stay: Option<&Stay<'_>>) -> bool
     ensures { result ≡ asks_for pid.now (option_copied stay.entry) }
 {
-    match stay {
-        Some(stay) => is_asked(pid, stay.asked.as_ref()),
-        None => false,
-    }
-}
-
-fn is_asked(pid: &str, asked: Option<&Asked>) -> bool
-    ensures { result ≡ is_asked pid.now (option_copied asked.entry) }
-{
-    match asked {
+    let Some(stay) = stay else {
+        return false;
+    };
+    match stay.asked.as_ref() {
         Some(asked) => asked.pid.as_str() == pid,
         None => false,
     }

@@ -2,9 +2,8 @@
 ghost use Rattle.std.specs.Prelude.{◌≡◌, ◌<◌, ◌-◌, ◌^◌, IfOk, map};
 ghost use Rattle.std.specs.Option.{option_map};
 ghost use Rattle.aud_findings.specs.ShownTurn.{turn_seen};
-ghost use Rattle.aud_findings.specs.MarkedTurns.{begins_by, end_open, ended_by, greatest_turn, last_by, last_number, mark_shown, mark_span, marked_turns, next_on, span_from, turn_number, turns_begun};
+ghost use Rattle.aud_findings.specs.MarkedTurns.{begins_by, end_open, ended_by, greatest_turn, last_by, last_number, mark_shown, mark_span, marked_turns, next_on, span_from, turn_number};
 
-use crate::timeline::order::sort_turns;
 use crate::timeline::shown::{push_turn, span_shown};
 use crate::timeline::span::{Ends, LastRecord, TurnSpan};
 use aud_explanation::{TurnBegin, TurnShown};
@@ -25,25 +24,12 @@ pub fn turns_of_marks<'r>(
     ensures { IfOk result (λ shown. map turn_seen shown.items
         ≡ marked_turns sheet.now.recording.now sheet.now.lines.now marks.now) }
 {
-    let mut shown = turns_begun(alloc, sheet, marks)?;
-    sort_turns(&mut shown)?;
-    Ok(shown)
-}
-
-/// The turns in the order of the marks.
-fn turns_begun<'r>(
-    alloc: Global,
-    sheet: &Sheet<'r, '_>,
-    marks: &[TurnMark],
-) -> Result<Vec<TurnShown<'r>>, AllocError>
-    ensures { IfOk result (λ shown. map turn_seen shown.items
-        ≡ turns_begun sheet.now.recording.now sheet.now.lines.now marks.now) }
-{
     let greatest = greatest_turn(marks);
     let mut shown = Vec::new(alloc);
     for number in 0..marks.len() {
         push_turn(&mut shown, mark_shown(sheet, greatest, marks, number))?;
     }
+    shown.sort_by_key(|turn| turn.turn)?;
     Ok(shown)
 }
 

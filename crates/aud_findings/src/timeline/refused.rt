@@ -1,5 +1,5 @@
 //! Recoveries of a session that were refused.
-ghost use Rattle.std.specs.Prelude.{◌≡◌, ◌++◌, IfOk, IfSome, MatchOption, None, OnOk, map, option_to_list, slice_get};
+ghost use Rattle.std.specs.Prelude.{◌≡◌, IfOk, IfSome, MatchOption, None, map};
 ghost use Rattle.std.specs.Option.{option_copied, option_map};
 ghost use Rattle.aud_session_facts.specs.Missed.{IsMissed, IsUntold};
 ghost use Rattle.aud_rows.specs.ClientPlaces.{AreOf};
@@ -9,7 +9,7 @@ ghost use Rattle.aud_rows.specs.TrueRow.{IsTrueRow};
 ghost use Rattle.aud_rows.specs.declared.row.Role.TheVariants as role;
 ghost use Rattle.aud_findings.specs.Refused.{IsMissedOf, ShowsRefused, asked_in, got_in, missed_at, missed_entries, missed_seen, refused_seen};
 
-use crate::timeline::record_at::stay_at;
+use crate::record_at::stay_at;
 use aud_client::Stay;
 use aud_explanation::Missed;
 use aud_node::Stream;
@@ -53,7 +53,7 @@ pub fn refused_shown<'r>(
         return Ok(None);
     };
     let reply = sheet.reply_row(tap, recovery.stay, Role::Reply);
-    let stay = stay_at(sheet, tap.place, recovery.stay);
+    let stay = stay_at(sheet.recording, tap.place, recovery.stay);
     let instead = got_in(stay);
     let missed = missed_of(alloc, sheet, tap.place, asked_in(stay), instead)?;
     Ok(Some(RefusedShown {
@@ -117,7 +117,9 @@ fn missed_entries<'r>(
 {
     let mut entries = Vec::new(alloc);
     for position in positions {
-        push_missed(&mut entries, missed_at(stream, *position))?;
+        if let Some(entry) = missed_at(stream, *position) {
+            entries.push(entry)?;
+        }
     }
     Ok(entries)
 }
@@ -131,19 +133,4 @@ fn missed_at<'r>(stream: &Stream<'r>, position: u64) -> Option<Missed<'r>>
         position,
         off: entry.offset().as_str(),
     })
-}
-
-/// Adds the entry, if there is one.
-fn push_missed<'r>(
-    entries: &mut Vec<Missed<'r>>,
-    entry: Option<Missed<'r>>,
-) -> Result<(), AllocError>
-    ensures { OnOk result (map missed_seen entries.new.items
-        ≡ map missed_seen entries.old.items
-        ++ option_to_list (option_map missed_seen entry.entry)) }
-{
-    if let Some(entry) = entry {
-        entries.push(entry)?;
-    }
-    Ok(())
 }

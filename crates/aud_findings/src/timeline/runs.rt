@@ -1,6 +1,6 @@
 //! Events that go on with one another.
 ghost use Rattle.std.specs.Prelude.{◌≡◌, IfOk, OnOk};
-ghost use Rattle.aud_findings.specs.Runs.{extended, joined, joined_events, joined_happens, run_on};
+ghost use Rattle.aud_findings.specs.Runs.{extended, joined, joined_events, joined_happens};
 
 use aud_explanation::{ClientEvent, Happens};
 use std::alloc::{AllocError, Global};
@@ -59,19 +59,14 @@ fn joined_happens(one_line: bool, happens: Happens, next: Happens) -> Option<Hap
                 from: after,
                 to: last,
             },
-        ) => { run_on(from, to, after, last) }
+        ) => {
+            if to.checked_add(1) == Some(after) {
+                Some(Happens::Got { from, to: last })
+            } else {
+                None
+            }
+        }
         (Happens::Lost, Happens::Lost) if one_line => Some(Happens::Lost),
         _ => None,
-    }
-}
-
-/// The entries from one position to another, and those from a position on that is the next one.
-fn run_on(from: u64, to: u64, after: u64, last: u64) -> Option<Happens>
-    ensures { result ≡ run_on from to after last }
-{
-    if to.checked_add(1) == Some(after) {
-        Some(Happens::Got { from, to: last })
-    } else {
-        None
     }
 }

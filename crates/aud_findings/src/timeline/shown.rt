@@ -2,7 +2,7 @@
 ghost use Rattle.std.specs.Prelude.{◌≡◌, ◌++◌, OnOk, map, option_to_list};
 ghost use Rattle.std.specs.Option.{option_map};
 ghost use Rattle.aud_findings.specs.ShownTurn.{turn_seen};
-ghost use Rattle.aud_findings.specs.SpanShown.{cursor_past, end_shown, span_shown, took_between, took_until};
+ghost use Rattle.aud_findings.specs.SpanShown.{cursor_past, end_shown, span_shown, took_until};
 
 use crate::timeline::span::{Ends, TurnSpan};
 use aud_explanation::{TurnEnd, TurnShown};
@@ -40,24 +40,17 @@ fn cursor_past(logs: &Logs<'_>, node: usize, number: usize) -> Option<u64>
     logs.node(node)?.cursor_after(number)
 }
 
-/// The first position and the last one from the one cursor to the other.
-fn took_between(low: u64, high: u64) -> Option<(u64, u64)>
-    ensures { result ≡ took_between low high }
-{
-    if low < high {
-        Some((low + 1, high))
-    } else {
-        None
-    }
-}
-
 /// The first position and the last one that a node took in a turn that begins at this cursor and ends so.
 fn took_until(low: u64, end: TurnEnd) -> Option<(u64, u64)>
     ensures { result ≡ took_until low end }
 {
     match end {
         TurnEnd::Break { high, .. } | TurnEnd::Gone { high, .. } | TurnEnd::Log { high, .. } => {
-            took_between(low, high)
+            if low < high {
+                Some((low + 1, high))
+            } else {
+                None
+            }
         }
         TurnEnd::Missing => None,
     }

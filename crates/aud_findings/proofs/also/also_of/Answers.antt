@@ -26,6 +26,6 @@ returns c =
     difference (is_found_so s.recording.now c.args.pid.now a c.requires.account difference (sym c.in-Some.ensures))
     c.args.tap.now.place c.numbers_naming-numbers.result.now c.requires.place c.numbers_naming-numbers.ensures (others_seen also)
     c.as_slice-entries.result.now
-    (λ up. subst (AreAllOf (is_also received c.as_slice.result.now difference)) (sym c.as_slice-entries.ensures.value) (c.in_ok-found.ensures up))
+    (subst (AreAllOf (is_also received c.as_slice.result.now difference)) (sym c.as_slice-entries.ensures.value) c.in_ok-found.ensures)
     h)
     c.all_shown.ensures

@@ -1,4 +1,4 @@
-use Rattle.std.proofs.Common.{◌≡◌, ◌∙◌, ap, map}
+use Rattle.std.proofs.Common.{◌∙◌, ap, map}
 use Rattle.std.proofs.lemmas.List.{take_all}
 use Rattle.aud_findings.specs.Also.{also_seen, entry_lines, range_also}
 use Rattle.aud_findings.specs.Private.InRanges.{range_seen}

@@ -16,7 +16,7 @@ returns-in-Some-clause-shown c =
       is_unordered =
           first_unordered_is here (own_places here pid) found c.in-Some.at
           (subst (λ (k : Cluster). AreOutOfOrder k (own_places k pid) found) c.logs.ensures c.in_ok-found.ensures)
-          (sym (c.in-Some.ensures ∙ ap (λ places. slice_get places 0) c.deref.ensures.value));
+          (sym (c.in-Some.ensures ∙ c.first.ensures.value ∙ ap (λ places. slice_get places 0) c.deref.ensures.value));
       are_its_rows =
           c.in_ok-node_rows-in-Some.ensures.rows
           ∙ ap (node_rows here c.args.sheet.now.lines.now) (c.deref-in-Some.ensures.value ∙ c.in_ok-records-in-Some.ensures);
@@ -29,4 +29,4 @@ returns-clause-shown c =
     let found = c.in_ok-found.found.items in
     none_unordered here (own_places here pid) found
     (subst (λ (k : Cluster). AreOutOfOrder k (own_places k pid) found) c.logs.ensures c.in_ok-found.ensures)
-    (sym (c.in-None.ensures ∙ ap (λ places. slice_get places 0) c.deref.ensures.value))
+    (sym (c.in-None.ensures ∙ c.first.ensures.value ∙ ap (λ places. slice_get places 0) c.deref.ensures.value))

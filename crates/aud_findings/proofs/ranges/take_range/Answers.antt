@@ -1,5 +1,4 @@
-use Rattle.std.proofs.Common.{◌≡◌, ◌+◌, ◌∙◌, ◌++◌, suc, List, [], ◌∷◌, map, length, drop, ap, sym, arith}
-use Rattle.aud_findings.specs.Also.{following, past_ranges, ranges}
+use Rattle.std.proofs.Common.{◌++◌, map, ap}
 use Rattle.aud_findings.specs.Private.InRanges.{range_seen}
 use Rattle.aud_findings.proofs.InRanges.{one_taken, past_taken, put_on, same_of_none, same_past_none}
 use Rattle.aud_findings.proofs.ranges.take_range.Goals as goal

@@ -4,13 +4,13 @@ use Rattle.std.proofs.lemmas.Map.Keys.{IsStrictlyIncreasing-dedup}
 use Rattle.std.specs.List.Sorted.{IsPermutation}
 use Rattle.aud_findings.specs.Private.Seen.{is_also_by}
 use Rattle.aud_findings.proofs.AllOf.{all_once}
-use Rattle.aud_findings.proofs.others.undue.Goals as goal
+use Rattle.aud_findings.proofs.others.among.Goals as goal
 
 pub returns : goal.returns
 returns c =
-    let received = c.args.received.now in
-    let test = is_also_by c.args.due.now c.args.difference in
-    let found : c.in_ok-found.found.items ≡ filter test received = c.in_ok-found.ensures c.args.due.now c.in_ok-seen.ensures in
+    let positions = c.args.positions.now in
+    let test = is_also_by c.args.against.now c.args.difference in
+    let found : c.in_ok-found.found.items ≡ filter test positions = c.in_ok-found.ensures c.args.against.now c.in_ok-seen.ensures in
     let is = dedup_is _ _ _ c.dedup.ensures.filtered in
-    all_once test received _ _ (subst (λ xs. IsPermutation xs c.sort_unstable.new.self.items) found c.sort_unstable.ensures.permutation) is
+    all_once test positions _ _ (subst (λ xs. IsPermutation xs c.sort_unstable.new.self.items) found c.sort_unstable.ensures.permutation) is
     (rw is (IsStrictlyIncreasing-dedup _ c.sort_unstable.ensures.sorted))

@@ -2,7 +2,7 @@ use Rattle.std.proofs.Common.{◌≡◌, map, flat_map, option_to_list}
 use Rattle.aud_node.specs.Lists.{numbers_from}
 use Rattle.aud_findings.specs.ShownTurn.{turn_seen}
 use Rattle.aud_findings.specs.MarkedTurns.{greatest_turn, mark_shown}
-use Rattle.aud_findings.proofs.timeline.marks.turns_begun.Given as goal
+use Rattle.aud_findings.proofs.timeline.marks.turns_of_marks.Given as goal
 
 abbrev pub invariant-loop-number : goal.invariant-loop-number
 invariant-loop-number l =

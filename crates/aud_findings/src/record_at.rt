@@ -4,9 +4,8 @@ ghost use Rattle.std.specs.Option.{option_copied};
 ghost use Rattle.aud_node.specs.Cluster.{node_log};
 ghost use Rattle.aud_rows.specs.StayRows.{stays_at};
 
-use aud_client::Stay;
+use aud_client::{Recording, Stay};
 use aud_node::Logs;
-use aud_rows::Sheet;
 use aud_tap::NodeRec;
 
 /// The record with this number of the node at this place.
@@ -19,14 +18,14 @@ pub(crate) fn record_at<'a>(logs: &Logs<'a>, node: usize, number: usize) -> Opti
     }
 }
 
-/// The stay with this number of the client's tap at this place.
+/// The stay with this number of the client's tap at this place, borrowed; none where there is none. Stays count from 0.
 pub(crate) fn stay_at<'r, 'a>(
-    sheet: &Sheet<'r, 'a>,
+    recording: &'r Recording<'a>,
     place: usize,
     number: usize,
 ) -> Option<&'r Stay<'a>>
-    ensures { option_copied result ≡ slice_get (stays_at sheet.now.recording.now place) number }
+    ensures { option_copied result ≡ slice_get (stays_at recording.now place) number }
 {
-    let transcript = sheet.recording.client(place)?.transcript();
+    let transcript = recording.client(place)?.transcript();
     transcript.stays.get(number)
 }
