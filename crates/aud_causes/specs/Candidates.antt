@@ -27,7 +27,7 @@ candidates fault.Orphan =
     ∷ codes "out-after-answer" ∷ codes "second-connect" ∷ codes "reply-without-pid" ∷ []
 candidates (fault.Content off) = codes "another-encoder" ∷ codes "attachments-reordered" ∷ codes "altered" ∷ codes "another-event" ∷ []
 candidates (fault.Extra off) =
-    codes "node-behind-break" ∷ codes "rooms-at-break" ∷ codes "offset-of-another-session" ∷ codes "log-ended-early" ∷ codes "late-leave"
+    codes "node-behind-break" ∷ codes "rooms-at-break" ∷ codes "offset-of-another-session" ∷ codes "log-ended-early" ∷ codes "sent-after-end" ∷ codes "late-leave"
     ∷ codes "before-birth" ∷ codes "extra-live" ∷ codes "join-missing" ∷ codes "leave-missing"
     ∷ codes "recovery-not-recorded" ∷ []
 candidates (fault.Doubled off) =

@@ -21,7 +21,7 @@ use Rattle.aud_causes.specs.declared.facts.Facts.{Facts}
 use Rattle.aud_causes.specs.Facts.{facts_of}
 use Rattle.aud_causes.specs.Delivery.{cause_if, held, doubled_in_replay, doubled_live, swapped_in_replay, swapped_live, lost_live, replay_includes_offset, sent_again, stale_offset, skipped_in_window}
 use Rattle.aud_causes.specs.Behind.{node_behind}
-use Rattle.aud_causes.specs.Extra.{log_ended_early, before_birth, late_leave, extra_live, change_missing}
+use Rattle.aud_causes.specs.Extra.{log_ended_early, sent_after_end, before_birth, late_leave, extra_live, change_missing}
 use Rattle.aud_causes.specs.Leavable.{leave_missing}
 use Rattle.aud_causes.specs.Unrecorded.{recovery_not_recorded}
 use Rattle.aud_causes.specs.AtBreak.{first_came, first_taken, rooms_at_break}
@@ -123,13 +123,13 @@ lost_in s f =
     f
 
 -- of an entry that was not due, for this reason, and where this holds of the node that was behind the break, of the
--- rooms at the break, of a room that was left, and of a change of rooms that is missing: the first; that of the rooms; the offset was another session's; a
--- node's log ends early; a room of it was left; it was taken before the session was opened; it was sent to a session to
--- which it wasn't addressed; a change of rooms is missing
+-- rooms at the break, of a room that was left, and of a change of rooms that is missing: the first; that of the rooms; the
+-- offset was another session's; a node's log ends early; the turn had ended; a room of it was left; it was taken before the
+-- session was opened; it was sent to a session to which it wasn't addressed; a change of rooms is missing
 abbrev pub extra_by : Cluster → Text → List TurnSeen → Option Cause → Option Cause → Option Cause → Option Cause → List ℕ → Option Reason → Facts → List Cause
 extra_by c pid turns behind at_break left missing due why f =
     held
-    (behind ∷ at_break ∷ other_session_before due f ∷ log_ended_early c pid turns why ∷ left
+    (behind ∷ at_break ∷ other_session_before due f ∷ log_ended_early c pid turns why ∷ sent_after_end c pid turns why f ∷ left
     ∷ before_birth c turns why ∷ extra_live (option_or behind left) why f ∷ missing ∷ [])
 
 -- the same, where this holds of the rooms at the break, and of a change of rooms that is missing

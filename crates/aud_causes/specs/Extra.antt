@@ -50,6 +50,18 @@ abbrev pub log_ended_early : Cluster → Text → List TurnSeen → Option Reaso
 log_ended_early c pid turns (Some InNoTurn) = option_and_then (ended_in c pid turns) (last_turn turns)
 log_ended_early c pid turns _ = None
 
+-- ---- the turn that had ended
+
+-- the turn's last record is the session's `break`, or its `gone`
+abbrev pub ended_by_log : Cluster → Text → TurnSeen → Option Cause
+ended_by_log c pid t = if goes_on pid t then None else Some (cause.SentAfterEnd (last_of c t) t.high)
+
+-- the session reached the entry in no turn; the stays match the turns, and the log of the turn in which the event came has
+-- its end
+abbrev pub sent_after_end : Cluster → Text → List TurnSeen → Option Reason → Facts → Option Cause
+sent_after_end c pid turns (Some InNoTurn) f = if f.matched then option_and_then (ended_by_log c pid) (slice_get turns f.later) else None
+sent_after_end c pid turns _ f = None
+
 -- ---- before the birth
 
 -- the node had taken the entry when it opened the session

@@ -12,7 +12,7 @@ use Rattle.aud_causes.specs.declared.record_at.Records.TheVariants.{Nothing, One
 use Rattle.aud_causes.specs.declared.table.Row.{Row}
 use Rattle.aud_causes.specs.NoPacket.{advice, no_packet_figures, no_packet_words}
 use Rattle.aud_causes.specs.declared.cause.Cause.{Cause}
-use Rattle.aud_causes.specs.declared.cause.Cause.TheVariants.{NodeBehindBreak, SentAgainAfterReplay, ReplayIncludesOffset, DoubledInReplay, StaleOffset, BodyCameTwice, OffsetOfAnotherSession, FrameNotRecorded, UnknownOffset, NoOffset, RoomsAtBreak, SkippedInWindow, LostLive, DoubledLive, SwappedLive, SwappedInReplay, AnotherEncoder, AttachmentsReordered, AnotherEvent, Altered, LogEndedEarly, LateLeave, BeforeBirth, ExtraLive, JoinMissing, LeaveMissing, RecoveryNotRecorded, MissingBreak, MissingBack, ClearedAfterBreak, TurnNotStored, RecoveredTwice, OpenedTwice, OpenNotRecorded, NodeNotTapped, NoStart, RestartedInOldLog, EntriesSkippedByNode, EntryTakenAgain, NotInStream, TwoTaps, NoClientTap, ReplyMissing, ClientTapHasNoPackets, SidDiffers, NamespaceDiffers, NotAPacket, TapBeganLate, CutBeforeReply, ReplyWithoutPid, OutAfterAnswer, SecondConnect, AfterDisconnect, SessionOver, NodeEndedInTurn, NeverBroken, AskedTooEarly}
+use Rattle.aud_causes.specs.declared.cause.Cause.TheVariants.{NodeBehindBreak, SentAgainAfterReplay, ReplayIncludesOffset, DoubledInReplay, StaleOffset, BodyCameTwice, OffsetOfAnotherSession, FrameNotRecorded, UnknownOffset, NoOffset, RoomsAtBreak, SkippedInWindow, LostLive, DoubledLive, SwappedLive, SwappedInReplay, AnotherEncoder, AttachmentsReordered, AnotherEvent, Altered, LogEndedEarly, SentAfterEnd, LateLeave, BeforeBirth, ExtraLive, JoinMissing, LeaveMissing, RecoveryNotRecorded, MissingBreak, MissingBack, ClearedAfterBreak, TurnNotStored, RecoveredTwice, OpenedTwice, OpenNotRecorded, NodeNotTapped, NoStart, RestartedInOldLog, EntriesSkippedByNode, EntryTakenAgain, NotInStream, TwoTaps, NoClientTap, ReplyMissing, ClientTapHasNoPackets, SidDiffers, NamespaceDiffers, NotAPacket, TapBeganLate, CutBeforeReply, ReplyWithoutPid, OutAfterAnswer, SecondConnect, AfterDisconnect, SessionOver, NodeEndedInTurn, NeverBroken, AskedTooEarly}
 
 -- what is said of a cause: its name, for scripts; the records that show it; what happened, in words, where in the place of
 -- each `#` stands the next of the figures; and what to do
@@ -119,6 +119,9 @@ row_of (Altered frame part) = row (codes "altered") (Got frame ∷ [])
 row_of (LogEndedEarly last high) = row (codes "log-ended-early") (Node last ∷ [])
     (codes "The log of # ends in the session's last turn; the turns reach entry #.") (Name last.node ∷ Number high ∷ [])
     (codes "write a node's log unbuffered, and stop the nodes after the clients.")
+row_of (SentAfterEnd end high) = row (codes "sent-after-end") (Node end ∷ [])
+    (codes "By its log # had ended the turn in which the event came, with its cursor at #.") (Name end.node ∷ Number high ∷ [])
+    (codes "write `break` once nothing more is sent to the client; see whether the node sent on.")
 row_of (LateLeave leave) = row (codes "late-leave") (Node leave ∷ [])
     (codes "The session had left a room of the entry before it reached the entry.") []
     (codes "send an entry by the rooms that the session holds when the node takes it.")

@@ -10,7 +10,6 @@ use Rattle.aud_session_facts.specs.declared.marks.TurnMark.{TurnMark}
 use Rattle.aud_session_facts.specs.declared.place.RecordPlace.{RecordPlace}
 use Rattle.aud_causes.specs.declared.cause.Cause.{Cause}
 use Rattle.aud_causes.specs.declared.cause.Cause.TheVariants.{MissingBack, MissingBreak, NodeNotTapped}
-use Rattle.aud_causes.specs.declared.turns.Unbroken.{Unbroken}
 
 -- ---- the records of a turn
 
@@ -121,28 +120,21 @@ missing_back_of marks turn = option_map (MissingBack turn) (after_begin turn (is
 abbrev pub missing_back : List TurnMark → List (Option RecordPlace) → Option Cause
 missing_back marks begins = missing_back_of marks (unbegun 0 begins)
 
--- no record breaks this turn, and its log doesn't end it, though the next one begins: where this is its begin, whether
--- it is broken, and ended, and the next one's begin
-abbrev pub unbroken_by : ℕ → Option (Option RecordPlace) → Option Bool → Option Bool → Option (Option RecordPlace) → Option Unbroken
-unbroken_by turn (Some (Some begin)) (Some false) (Some false) (Some (Some back)) = Some (record { turn = turn; begin = begin; back = back })
-unbroken_by turn _ _ _ _ = None
-
--- the same of the turn with this number
-abbrev pub unbroken_at : List (Option RecordPlace) → List Bool → List Bool → ℕ → Option Unbroken
-unbroken_at begins broken ended turn = unbroken_by turn (slice_get begins turn) (slice_get broken turn) (slice_get ended turn) (slice_get begins (suc turn))
-
 -- the recovery after this turn: that with the turn's number among these, where they match so many turns, of which each but
 -- the first begins with one
 abbrev pub recovery_after : ℕ → List ℕ → ℕ → Option ℕ
 recovery_after count came turn = if nat_eq (length came) (count - 1) then slice_get came turn else None
 
--- the cause, where there are so many turns, and these recoveries
-abbrev pub missing_by : ℕ → List ℕ → Unbroken → Cause
-missing_by count came u = MissingBreak u.turn u.begin u.back (recovery_after count came u.turn)
+-- no record breaks this turn, and its log doesn't end it, though the next one begins: where this is its begin, whether
+-- it is broken, and ended, the next one's begin, and the recovery after it
+abbrev pub missing_by : ℕ → Option (Option RecordPlace) → Option Bool → Option Bool → Option (Option RecordPlace) → Option ℕ → Option Cause
+missing_by turn (Some (Some begin)) (Some false) (Some false) (Some (Some back)) stay = Some (MissingBreak turn begin back stay)
+missing_by turn _ _ _ _ stay = None
 
 -- the same of the turn with this number
 abbrev pub missing_break : List (Option RecordPlace) → List Bool → List Bool → List ℕ → ℕ → Option Cause
-missing_break begins broken ended came turn = option_map (missing_by (length begins) came) (unbroken_at begins broken ended turn)
+missing_break begins broken ended came turn =
+    missing_by turn (slice_get begins turn) (slice_get broken turn) (slice_get ended turn) (slice_get begins (suc turn)) (recovery_after (length begins) came turn)
 
 -- of each turn
 abbrev pub missing_breaks : List (Option RecordPlace) → List Bool → List Bool → List ℕ → List Cause

@@ -1,7 +1,7 @@
 //! A client's tap that may have a session's connection without its packets.
 ghost use Rattle.std.specs.Prelude.{◌≡◌, IfOk};
 ghost use Rattle.std.specs.Option.{option_copied};
-ghost use Rattle.aud_causes.specs.Bare.{bare_place, begins_bare, first_bare, is_bare, is_packet, tap_without_packets};
+ghost use Rattle.aud_causes.specs.Bare.{bare_place, first_bare, is_bare, is_packet, tap_without_packets};
 
 use crate::cause::Cause;
 use crate::turns::turn_count;
@@ -46,15 +46,12 @@ fn is_bare(tap: &Tap) -> bool
     ensures { result ≡ is_bare tap.now }
 {
     match &tap.records {
-        Records::Client(recs) => begins_bare(recs.as_slice()),
+        Records::Client(recs) => {
+            let recs = recs.as_slice();
+            matches!(recs.get(0), Some(ClientRec::Conn { .. })) && !is_packet(recs.get(1))
+        }
         _ => false,
     }
-}
-
-fn begins_bare(recs: &[ClientRec]) -> bool
-    ensures { result ≡ begins_bare recs.now }
-{
-    matches!(recs.get(0), Some(ClientRec::Conn { .. })) && !is_packet(recs.get(1))
 }
 
 /// Whether there is a record, and it is of packets.

@@ -1,7 +1,7 @@
 //! What came twice because a body of polling did.
 ghost use Rattle.std.specs.Prelude.{◌≡◌, None, slice_get};
 ghost use Rattle.std.specs.Option.{option_copied};
-ghost use Rattle.aud_causes.specs.Bodies.{are_equal_bodies, body_at, body_before, body_twice, client_record, equal_bodies, frames_there, is_one_body, last_of, last_record, places_at, record_of};
+ghost use Rattle.aud_causes.specs.Bodies.{body_at, body_before, body_twice, client_record, equal_bodies, frames_there, last_of, last_record, places_at, record_of};
 
 use crate::cause::Cause;
 use crate::facts::Facts;
@@ -36,9 +36,14 @@ fn equal_bodies(
 ) -> Option<Cause>
     ensures { result ≡ equal_bodies recording.now client numbers.now facts }
 {
-    let first = record_of(recording, client, numbers, facts.parted.first);
-    let again = record_of(recording, client, numbers, facts.parted.again);
-    if !are_equal_bodies(recording, client, first, again) {
+    let first = record_of(recording, client, numbers, facts.parted.first)?;
+    let again = record_of(recording, client, numbers, facts.parted.again)?;
+    if first == again {
+        return None;
+    }
+    let body = body_at(recording, client, first)?;
+    let other = body_at(recording, client, again)?;
+    if body.as_str() != other.as_str() {
         return None;
     }
     Some(Cause::BodyCameTwice {
@@ -46,33 +51,6 @@ fn equal_bodies(
         again: facts.parted.again,
         equal: true,
     })
-}
-
-/// Whether these are two records of the client's tap at this place, which are bodies of polling of the same text.
-fn are_equal_bodies(
-    recording: &Recording<'_>,
-    client: usize,
-    first: Option<usize>,
-    again: Option<usize>,
-) -> bool
-    ensures { result ≡ are_equal_bodies recording.now client first again }
-{
-    let Some(first) = first else {
-        return false;
-    };
-    let Some(again) = again else {
-        return false;
-    };
-    if first == again {
-        return false;
-    }
-    match (
-        body_at(recording, client, first),
-        body_at(recording, client, again),
-    ) {
-        (Some(first), Some(again)) => first.as_str() == again.as_str(),
-        _ => false,
-    }
 }
 
 /// The text of the record with this number of the client's tap at this place, if that is a body of polling.
@@ -109,9 +87,9 @@ fn body_before(
     if facts.later <= facts.earlier {
         return None;
     }
-    let first = record_of(recording, client, numbers, facts.parted.first);
-    let last = last_record(places_at(recording, client), front_of(numbers, facts.later));
-    if !is_one_body(recording, client, first, last) {
+    let first = record_of(recording, client, numbers, facts.parted.first)?;
+    let last = last_record(places_at(recording, client), front_of(numbers, facts.later))?;
+    if first != last || body_at(recording, client, first).is_none() {
         return None;
     }
     Some(Cause::BodyCameTwice {
@@ -164,22 +142,4 @@ fn last_of(places: &[StayPlaces], number: usize) -> Option<usize>
     let frames = &places.get(number)?.frames;
     let last = *frames.get(frames.len().saturating_sub(1))?;
     Some(last as usize)
-}
-
-/// Whether both records of the client's tap at this place are one, and that is a body of polling.
-fn is_one_body(
-    recording: &Recording<'_>,
-    client: usize,
-    first: Option<usize>,
-    last: Option<usize>,
-) -> bool
-    ensures { result ≡ is_one_body recording.now client first last }
-{
-    let Some(first) = first else {
-        return false;
-    };
-    let Some(last) = last else {
-        return false;
-    };
-    first == last && body_at(recording, client, first).is_some()
 }

@@ -56,11 +56,12 @@ static CONTENT: [&str; 4] = [
     "another-event",
 ];
 
-static EXTRA: [&str; 10] = [
+static EXTRA: [&str; 11] = [
     "node-behind-break",
     "rooms-at-break",
     "offset-of-another-session",
     "log-ended-early",
+    "sent-after-end",
     "late-leave",
     "before-birth",
     "extra-live",

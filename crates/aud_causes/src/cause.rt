@@ -116,6 +116,11 @@ pub enum Cause {
         last: RecordPlace,
         high: u64,
     },
+    /// The turn in which the event came had ended, with the node's cursor before the entry.
+    SentAfterEnd {
+        end: RecordPlace,
+        high: u64,
+    },
     /// The session left a room of the entry before it reached the entry.
     LateLeave {
         leave: RecordPlace,

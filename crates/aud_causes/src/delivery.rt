@@ -9,7 +9,9 @@ use crate::at_break::{first_came, first_taken, rooms_at_break};
 use crate::behind::node_behind;
 use crate::bodies::body_twice;
 use crate::cause::Cause;
-use crate::extra::{before_birth, change_missing, extra_live, late_leave, log_ended_early};
+use crate::extra::{
+    before_birth, change_missing, extra_live, late_leave, log_ended_early, sent_after_end,
+};
 use crate::facts::{Facts, facts_of};
 use crate::leavable::leave_missing;
 use crate::list::{held, push_some};
@@ -229,6 +231,7 @@ fn extra_causes(
             at_break,
             other_session_before(due, facts),
             log_ended_early(logs, pid, turns, why),
+            sent_after_end(logs, pid, turns, why, facts),
             left,
             before_birth(logs, turns, why),
             extra_live(behind.or(left), why, facts),

@@ -3,7 +3,7 @@ ghost use Rattle.std.specs.Prelude.{◌≡◌, IfOk, map, option_map};
 ghost use Rattle.std.specs.Option.{option_copied};
 ghost use Rattle.aud_cert.specs.Certificate.{turn_at};
 ghost use Rattle.aud_session_facts.specs.NotDue.{reason_of};
-ghost use Rattle.aud_causes.specs.Extra.{before_birth, change_missing, ends_turn, extra_live, first_left, goes_on, late_leave, left_before, log_ended_early, reached_at, rooms_named};
+ghost use Rattle.aud_causes.specs.Extra.{before_birth, change_missing, extra_live, first_left, goes_on, late_leave, left_before, log_ended_early, reached_at, rooms_named, sent_after_end};
 
 use crate::behind::{first_of, last_of};
 use crate::cause::Cause;
@@ -44,17 +44,35 @@ pub(crate) fn goes_on(pid: &str, turn: &Turn<'_>) -> bool
     ensures { result ≡ goes_on pid.now turn.now }
 {
     let recs = &turn.recs;
-    !ends_turn(pid, recs.get(recs.len().saturating_sub(1)))
+    match recs.get(recs.len().saturating_sub(1)) {
+        Some(NodeRec::Broke { pid: other, .. }) => other.as_str() != pid,
+        Some(NodeRec::Gone { pid: other }) => other.as_str() != pid,
+        _ => true,
+    }
 }
 
-fn ends_turn(pid: &str, rec: Option<&NodeRec>) -> bool
-    ensures { result ≡ ends_turn pid.now (option_copied rec.entry) }
+/// Where the session reached the entry in no turn, and the log of the turn in which the event came has its end.
+pub(crate) fn sent_after_end(
+    logs: &Logs<'_>,
+    pid: &str,
+    turns: &[Turn<'_>],
+    why: &Option<NotDue<'_>>,
+    facts: Facts,
+) -> Option<Cause>
+    ensures { result
+        ≡ sent_after_end logs.now pid.now turns.now (option_map reason_of why.now) facts }
 {
-    match rec {
-        Some(NodeRec::Broke { pid: other, .. }) => other.as_str() == pid,
-        Some(NodeRec::Gone { pid: other }) => other.as_str() == pid,
-        _ => false,
+    if !facts.matched || !matches!(why, Some(NotDue::InNoTurn)) {
+        return None;
     }
+    let turn = turns.get(facts.later)?;
+    if goes_on(pid, turn) {
+        return None;
+    }
+    Some(Cause::SentAfterEnd {
+        end: last_of(logs, turn),
+        high: turn.high,
+    })
 }
 
 /// Where the node had taken the entry when it opened the session.

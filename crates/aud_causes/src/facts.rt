@@ -153,13 +153,7 @@ pub(crate) fn asked_after(stream: &Stream<'_>, stays: &[&Stay<'_>], number: usiz
     ensures { result ≡ asked_after stream.now
         (slice_get (map (λ stay. stay.now) stays.now) number) }
 {
-    asked_in(stream, stay_at(stays, number)?)
-}
-
-/// The same of this stay.
-fn asked_in(stream: &Stream<'_>, stay: &Stay<'_>) -> Option<u64>
-    ensures { result ≡ asked_after stream.now (Some stay.now) }
-{
+    let stay = stay_at(stays, number)?;
     if !stay.is_recovered() {
         return None;
     }

@@ -1,7 +1,7 @@
 //! A session's last turn, by the records that begin and end turns.
 ghost use Rattle.std.specs.Prelude.{◌≡◌};
-ghost use Rattle.aud_causes.specs.LastTurn.{ends_after, is_ended, last_begin, last_turn};
-ghost use Rattle.aud_causes.specs.Turns.{begin_of, is_broken, is_end, is_turn};
+ghost use Rattle.aud_causes.specs.LastTurn.{is_ended, last_begin, last_turn};
+ghost use Rattle.aud_causes.specs.Turns.{is_broken, is_end, is_turn};
 
 use crate::turns::{begun_turn, broken_turn, turn_count};
 use aud_session_facts::{Mark, RecordPlace, TurnMark};
@@ -17,13 +17,7 @@ pub(crate) fn last_turn(marks: &[TurnMark]) -> usize
 pub(crate) fn last_begin(marks: &[TurnMark]) -> Option<RecordPlace>
     ensures { result ≡ last_begin marks.now }
 {
-    begin_of(marks, last_turn(marks))
-}
-
-/// The first record that begins the turn.
-fn begin_of(marks: &[TurnMark], turn: usize) -> Option<RecordPlace>
-    ensures { result ≡ begin_of marks.now turn }
-{
+    let turn = last_turn(marks);
     let mark = marks
         .iter()
         .find(|mark| is_turn(turn, begun_turn(mark.mark)))?;
@@ -53,19 +47,9 @@ pub(crate) fn is_turn(turn: usize, other: Option<u16>) -> bool
 pub(crate) fn is_ended(marks: &[TurnMark], begin: RecordPlace) -> bool
     ensures { result ≡ is_ended marks.now begin }
 {
-    marks.iter().any(|mark| ends_after(begin, *mark))
-}
-
-fn ends_after(begin: RecordPlace, mark: TurnMark) -> bool
-    ensures { result ≡ ends_after begin mark }
-{
-    if mark.place.node != begin.node {
-        return false;
-    }
-    if mark.place.number <= begin.number {
-        return false;
-    }
-    is_end(mark.mark)
+    marks.iter().any(|mark| {
+        mark.place.node == begin.node && begin.number < mark.place.number && is_end(mark.mark)
+    })
 }
 
 /// Whether such a record ends a turn.

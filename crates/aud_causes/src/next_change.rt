@@ -1,7 +1,6 @@
 //! The next record by which a session changes a room, past a position.
 ghost use Rattle.std.specs.Prelude.{◌≡◌};
-ghost use Rattle.std.specs.Option.{option_copied};
-ghost use Rattle.aud_causes.specs.NextChange.{change_past, is_change, next_change, next_change_at};
+ghost use Rattle.aud_causes.specs.NextChange.{change_past, next_change, next_change_at};
 
 use aud_cert::{Turn, turn_place};
 use aud_node::Logs;
@@ -62,21 +61,7 @@ fn change_past(
     ensures { result ≡ change_past logs.now node pid.now room.now position high number }
 {
     let log = logs.node(node)?;
-    if !is_change(pid, room, log.recs().get(number)) {
-        return None;
-    }
-    let reached = log.cursor_after(number)?.max(high);
-    if reached < position {
-        return None;
-    }
-    Some(reached)
-}
-
-/// Whether by the record the session joins or leaves the room.
-fn is_change(pid: &str, room: &str, rec: Option<&NodeRec>) -> bool
-    ensures { result ≡ is_change pid.now room.now (option_copied rec.entry) }
-{
-    match rec {
+    match log.recs().get(number) {
         Some(
             NodeRec::Join {
                 pid: other,
@@ -86,7 +71,13 @@ fn is_change(pid: &str, room: &str, rec: Option<&NodeRec>) -> bool
                 pid: other,
                 room: name,
             },
-        ) => other.as_str() == pid && name.as_str() == room,
-        _ => false,
+        ) if other.as_str() == pid && name.as_str() == room => {
+            let reached = log.cursor_after(number)?.max(high);
+            if reached < position {
+                return None;
+            }
+            Some(reached)
+        }
+        _ => None,
     }
 }

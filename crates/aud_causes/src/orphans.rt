@@ -2,7 +2,7 @@
 ghost use Rattle.std.specs.Prelude.{◌≡◌, ◌++◌, IfOk, None, OnOk, slice_get};
 ghost use Rattle.std.specs.Option.{option_copied};
 ghost use Rattle.aud_session_facts.specs.Recoveries.{stays_at};
-ghost use Rattle.aud_causes.specs.Orphans.{answered_causes, began_late, begins, causes_of_before, is_asked_first, is_beside, is_disconnect, last_beside, last_of_stay, may_be_cut, next_of_stay, orphan_causes, replied_causes, reply_lost, stay_before, unreplied_causes, without_reply};
+ghost use Rattle.aud_causes.specs.Orphans.{answered_causes, began_late, causes_of_before, is_asked_first, is_disconnect, last_beside, last_of_stay, next_of_stay, orphan_causes, replied_causes, reply_lost, stay_before, unreplied_causes, without_reply};
 
 use crate::bodies::{client_record, places_at};
 use crate::cause::Cause;
@@ -102,9 +102,11 @@ fn without_reply(
     ensures { result ≡ without_reply number stay.now.asked (option_copied next.entry) late }
 {
     match &stay.asked {
-        Some(_) if may_be_cut(next) => Some(Cause::CutBeforeReply { stay: number }),
-        None if late => Some(Cause::TapBeganLate { stay: number }),
-        _ => None,
+        Some(_) => {
+            let may_be_cut = matches!(next, None | Some(ClientRec::Lost | ClientRec::Conn { .. }));
+            may_be_cut.then_some(Cause::CutBeforeReply { stay: number })
+        }
+        None => late.then_some(Cause::TapBeganLate { stay: number }),
     }
 }
 
@@ -133,30 +135,15 @@ fn next_of_stay<'a>(
     client_record(recording, client, places.last as usize + 1)
 }
 
-/// Whether the connection is lost at the record, or another one begins; or the tap ends there.
-fn may_be_cut(next: Option<&ClientRec>) -> bool
-    ensures { result ≡ may_be_cut (option_copied next.entry) }
-{
-    matches!(next, None | Some(ClientRec::Lost | ClientRec::Conn { .. }))
-}
-
 /// Whether nothing says that the tap has the connection from its beginning: the stay is the tap's first one, in its
 /// first connection, and doesn't begin with the client's CONNECT.
 fn began_late(recording: &Recording<'_>, client: usize, number: usize, stay: &Stay<'_>) -> bool
     ensures { result ≡ began_late recording.now client number stay.now }
 {
-    if number != 0 || !begins(stay.c, client_record(recording, client, 0)) {
-        return false;
-    }
-    !is_asked_first(recording, client, number)
-}
-
-/// Whether the record begins the connection with this number.
-fn begins(conn: u64, rec: Option<&ClientRec>) -> bool
-    ensures { result ≡ begins conn (option_copied rec.entry) }
-{
-    match rec {
-        Some(ClientRec::Conn { c }) => *c == conn,
+    match client_record(recording, client, 0) {
+        Some(ClientRec::Conn { c }) if number == 0 && *c == stay.c => {
+            !is_asked_first(recording, client, number)
+        }
         _ => false,
     }
 }
@@ -195,17 +182,11 @@ fn last_beside(stay: &Stay<'_>, stays: &[Stay<'_>]) -> Option<usize>
 {
     let mut last = None;
     for (number, other) in stays.iter().enumerate() {
-        if is_beside(stay, other) {
+        if other.c == stay.c && other.nsp == stay.nsp {
             last = Some(number);
         }
     }
     last
-}
-
-fn is_beside(stay: &Stay<'_>, other: &Stay<'_>) -> bool
-    ensures { result ≡ is_beside stay.now other.now }
-{
-    other.c == stay.c && other.nsp == stay.nsp
 }
 
 /// Adds the causes of the stay before, if there is one: it ended by a DISCONNECT; or it was answered.

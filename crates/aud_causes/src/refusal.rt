@@ -1,10 +1,9 @@
 //! What the refusal of a recovery may come from.
 ghost use Rattle.std.specs.Prelude.{◌≡◌, ◌∷◌, [], IfOk, None, Some, map, true};
-ghost use Rattle.aud_node.specs.Stream.{position};
 ghost use Rattle.aud_session_facts.specs.Recoveries.{stays_at};
 ghost use Rattle.aud_rows.specs.ClientPlaces.{AreOf};
 ghost use Rattle.aud_causes.specs.Found.{cause_seen, shown_causes};
-ghost use Rattle.aud_causes.specs.Refusals.{asked_causes, asked_too_early, cursor_there, first_open, got_of, last_break, never_broken, node_ended, offset_cause, refusal_causes, refused_causes, session_over, stay_causes, unknown_offset};
+ghost use Rattle.aud_causes.specs.Refusals.{asked_causes, asked_too_early, cursor_there, first_open, got_of, last_break, never_broken, node_ended, offset_cause, refusal_causes, refused_causes, session_over, stay_causes};
 ghost use Rattle.aud_causes.specs.TakenBack.{marks_before};
 
 use crate::cause::Cause;
@@ -158,13 +157,7 @@ fn offset_cause(logs: &Logs<'_>, asked: &Asked) -> Option<Cause>
     let Some(off) = &asked.offset else {
         return Some(Cause::NoOffset { stay: 0 });
     };
-    unknown_offset(logs, off.as_str())
-}
-
-/// Where neither the stream nor a node's log has the entry of this offset.
-fn unknown_offset(logs: &Logs<'_>, off: &str) -> Option<Cause>
-    ensures { result ≡ unknown_offset logs.now off.now (position logs.now.stream off.now) }
-{
+    let off = off.as_str();
     if logs.stream().position(off).is_some() || is_named(logs, off) {
         return None;
     }

@@ -3,7 +3,7 @@ ghost use Rattle.std.specs.Prelude.{◌≡◌, ◌++◌, ◌<◌, IfOk, OnOk, le
 ghost use Rattle.std.specs.Option.{option_copied};
 ghost use Rattle.aud_causes.specs.Chain.{causes_of_marks, chain_causes};
 ghost use Rattle.aud_causes.specs.Private.Noting.{break_in, with_begin};
-ghost use Rattle.aud_causes.specs.Turns.{after_begin, begins_of, begun_turn, breaks_of, broken_turn, count_with, ended_by, ends_of, is_after_begin, is_untapped, missing_back, missing_break, missing_breaks, missing_causes, not_tapped, recovery_after, turn_count, unbegun, unbroken_at};
+ghost use Rattle.aud_causes.specs.Turns.{after_begin, begins_of, begun_turn, breaks_of, broken_turn, ended_by, ends_of, is_after_begin, is_untapped, missing_back, missing_break, missing_breaks, missing_causes, not_tapped, recovery_after, turn_count, unbegun};
 
 use crate::cause::Cause;
 use crate::cleared::push_cleared;
@@ -15,14 +15,6 @@ use aud_client::Stay;
 use aud_node::Logs;
 use aud_session_facts::{Mark, RecordPlace, TurnMark};
 use std::alloc::{AllocError, Global};
-
-/// A turn that no record breaks, and that its log doesn't end, though the next one begins.
-#[derive(Clone, Copy, Drop)]
-pub struct Unbroken {
-    pub turn: usize,
-    pub begin: RecordPlace,
-    pub back: RecordPlace,
-}
 
 /// The causes, where these are all records that begin or end turns of the session, and these the stays of its client's
 /// tap whose reply names it. Turns count from 0 to 65,535.
@@ -89,20 +81,13 @@ pub(crate) fn turn_count(marks: &[TurnMark]) -> usize
 {
     let mut count = 0;
     for mark in marks {
-        count = count_with(count, begun_turn(mark.mark));
+        if let Some(turn) = begun_turn(mark.mark) {
+            if count <= turn as usize {
+                count = turn as usize + 1;
+            }
+        }
     }
     count
-}
-
-/// How many turns are known, where so many are, and this one is too.
-fn count_with(count: usize, turn: Option<u16>) -> usize
-    ensures { result ≡ count_with count turn }
-{
-    let Some(turn) = turn else {
-        return count;
-    };
-    let turn = turn as usize;
-    if turn < count { count } else { turn + 1 }
 }
 
 /// The turn that such a record begins, if it begins one.
@@ -292,13 +277,22 @@ fn missing_break(
     requires { turn < length begins.now }
     ensures { result ≡ missing_break begins.now broken.now ended.now came.now turn }
 {
-    let unbroken = unbroken_at(begins, broken, ended, turn)?;
-    Some(Cause::MissingBreak {
-        turn: unbroken.turn,
-        begin: unbroken.begin,
-        back: unbroken.back,
-        stay: recovery_after(begins.len(), came, unbroken.turn),
-    })
+    match (
+        begins.get(turn),
+        broken.get(turn),
+        ended.get(turn),
+        begins.get(turn + 1),
+    ) {
+        (Some(Some(begin)), Some(false), Some(false), Some(Some(back))) => {
+            Some(Cause::MissingBreak {
+                turn,
+                begin: *begin,
+                back: *back,
+                stay: recovery_after(begins.len(), came, turn),
+            })
+        }
+        _ => None,
+    }
 }
 
 /// The recovery after this turn, where the recoveries match so many turns.
@@ -309,29 +303,4 @@ fn recovery_after(count: usize, came: &[usize], turn: usize) -> Option<usize>
         return None;
     }
     came.get(turn).copied()
-}
-
-/// The turn with this number, if no record breaks it, and its log doesn't end it, though the next one begins.
-fn unbroken_at(
-    begins: &[Option<RecordPlace>],
-    broken: &[bool],
-    ended: &[bool],
-    turn: usize,
-) -> Option<Unbroken>
-    requires { turn < length begins.now }
-    ensures { result ≡ unbroken_at begins.now broken.now ended.now turn }
-{
-    match (
-        begins.get(turn),
-        broken.get(turn),
-        ended.get(turn),
-        begins.get(turn + 1),
-    ) {
-        (Some(Some(begin)), Some(false), Some(false), Some(Some(back))) => Some(Unbroken {
-            turn,
-            begin: *begin,
-            back: *back,
-        }),
-        _ => None,
-    }
 }

@@ -1,6 +1,6 @@
 //! A turn for which two records take the session back.
-ghost use Rattle.std.specs.Prelude.{◌≡◌, ◌++◌, OnOk, slice_get};
-ghost use Rattle.aud_causes.specs.Twice.{back_turn, causes_of_twice, begun_twice, is_as_often, is_written_again, mark_before, open_with, opened_after, opened_twice, turn_not_stored, twice_at, twice_by, twice_causes};
+ghost use Rattle.std.specs.Prelude.{◌≡◌, ◌++◌, OnOk};
+ghost use Rattle.aud_causes.specs.Twice.{back_turn, causes_of_twice, is_as_often, is_written_again, open_with, opened_after, opened_twice, turn_not_stored, twice_at, twice_by, twice_causes};
 
 use crate::cause::Cause;
 use crate::last_turn::is_turn;
@@ -49,17 +49,11 @@ pub(crate) fn is_as_often(marks: &[TurnMark], came: &[usize]) -> bool
 fn twice_at(begins: &[Option<RecordPlace>], marks: &[TurnMark], number: usize) -> Option<Twice>
     ensures { result ≡ twice_at begins.now marks.now number }
 {
-    twice_by(begins, mark_before(marks, number), *marks.get(number)?)
-}
-
-/// The record before the one with this number.
-fn mark_before(marks: &[TurnMark], number: usize) -> Option<TurnMark>
-    ensures { result ≡ mark_before marks.now number }
-{
-    if number == 0 {
-        return None;
-    }
-    marks.get(number - 1).copied()
+    let before = match number {
+        0 => None,
+        _ => marks.get(number - 1).copied(),
+    };
+    twice_by(begins, before, *marks.get(number)?)
 }
 
 /// The same of this record, and the one before it; none where that is this one, written twice.
@@ -71,10 +65,20 @@ fn twice_by(
     ensures { result ≡ twice_by begins.now before mark }
 {
     let turn = back_turn(mark.mark)? as usize;
-    if is_written_again(turn, mark.place, before) {
+    let again = mark.place;
+    if is_written_again(turn, again, before) {
         return None;
     }
-    begun_twice(begins, turn, mark.place)
+    match begins.get(turn) {
+        Some(Some(first)) if first.node != again.node || first.number != again.number => {
+            Some(Twice {
+                turn,
+                first: *first,
+                again,
+            })
+        }
+        _ => None,
+    }
 }
 
 /// Whether the record at this place takes the session back for the turn, as the one before it in the same log does.
@@ -88,23 +92,6 @@ fn is_written_again(turn: usize, place: RecordPlace, before: Option<TurnMark>) -
         return false;
     }
     is_turn(turn, back_turn(before.mark))
-}
-
-/// The turn, where another record than this is the first that begins it.
-fn begun_twice(begins: &[Option<RecordPlace>], turn: usize, again: RecordPlace) -> Option<Twice>
-    ensures { result ≡ begun_twice turn again (slice_get begins.now turn) }
-{
-    let Some(Some(first)) = begins.get(turn) else {
-        return None;
-    };
-    if first.node == again.node && first.number == again.number {
-        return None;
-    }
-    Some(Twice {
-        turn,
-        first: *first,
-        again,
-    })
 }
 
 /// The turn for which the record takes the session back, if it is a `back`.

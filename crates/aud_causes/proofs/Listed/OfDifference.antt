@@ -29,7 +29,7 @@ use Rattle.aud_causes.specs.Bodies.{are_equal_bodies, body_before, body_twice, e
 use Rattle.aud_causes.specs.Changed.{fits_with, fits_with_any}
 use Rattle.aud_causes.specs.Delivery.{doubled_in_replay, doubled_live, is_in_replay, is_live, is_outside, is_replayed, is_taken_live, is_this, lost_live, replay_includes_offset, sent_again, skipped_in_window, stale_offset, swapped_in_replay, swapped_live}
 use Rattle.aud_causes.specs.Differences.{Case, difference_causes, doubled_in, extra_by, extra_in, frame_not_recorded, lost_in, other_session_after, other_session_before, swapped_causes}
-use Rattle.aud_causes.specs.Extra.{before_birth, change_missing, ended_in, extra_live, first_left, goes_on, is_unaddressed, last_turn, late_leave, log_ended_early, reached_at, rooms_named}
+use Rattle.aud_causes.specs.Extra.{before_birth, change_missing, ended_by_log, ended_in, sent_after_end, extra_live, first_left, goes_on, is_unaddressed, last_turn, late_leave, log_ended_early, reached_at, rooms_named}
 use Rattle.aud_causes.specs.Facts.{facts_of}
 use Rattle.aud_causes.specs.Leavable.{is_left_by, leave_missing}
 use Rattle.aud_causes.specs.Logs.{recoveries}
@@ -84,6 +84,15 @@ module _ (off : Text) where
       (last_turn turns)
   ended_listed c pid turns _ = tt
 
+  end_listed : (c : Cluster) (pid : Text) (turns : List TurnSeen) (why : Option Reason) (f : Facts) → OfSome in_extra (sent_after_end c pid turns why f)
+  end_listed c pid turns (Some InNoTurn) f =
+      of_choice in_extra f.matched (option_and_then (ended_by_log c pid) (slice_get turns f.later)) None
+      (of_then in_extra (ended_by_log c pid)
+      (λ t. of_choice in_extra (goes_on pid t) None (Some (cause.SentAfterEnd (last_of c t) t.high)) tt refl)
+      (slice_get turns f.later))
+      tt
+  end_listed c pid turns _ f = tt
+
   birth_listed : (c : Cluster) (turns : List TurnSeen) (why : Option Reason) → OfSome in_extra (before_birth c turns why)
   birth_listed c turns (Some BeforeBirth) = of_map in_extra (λ (t : TurnSeen). cause.BeforeBirth (first_of c t) t.low) (λ t. refl) (slice_get turns 0)
   birth_listed c turns _ = tt
@@ -112,13 +121,14 @@ module _ (off : Text) where
       → (due : List ℕ) (why : Option Reason) (f : Facts) → list_all in_extra (extra_by c pid turns behind at_break left missing due why f) ≡ true
   extra_by_listed c pid turns behind at_break left missing is_behind is_at_break is_left is_missing due why f =
       let of_other = other_before_listed due f in
-      let of_end = ended_listed c pid turns why in
+      let of_early = ended_listed c pid turns why in
+      let of_end = end_listed c pid turns why f in
       let of_birth = birth_listed c turns why in
       let of_live = live_listed (option_or behind left) why f in
       of_held in_extra
-      (behind ∷ at_break ∷ other_session_before due f ∷ log_ended_early c pid turns why ∷ left
+      (behind ∷ at_break ∷ other_session_before due f ∷ log_ended_early c pid turns why ∷ sent_after_end c pid turns why f ∷ left
       ∷ before_birth c turns why ∷ extra_live (option_or behind left) why f ∷ missing ∷ [])
-      (is_behind, (is_at_break, (of_other, (of_end, (is_left, (of_birth, (of_live, (is_missing, tt))))))))
+      (is_behind, (is_at_break, (of_other, (of_early, (of_end, (is_left, (of_birth, (of_live, (is_missing, tt)))))))))
 
   extra_listed : (s : Case) (f : Facts) (position : ℕ) → list_all in_extra (extra_in s f position) ≡ true
   extra_listed s f position =

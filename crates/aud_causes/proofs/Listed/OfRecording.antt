@@ -1,5 +1,5 @@
 -- The causes of a fault for which a session has no certificate have names of that fault's list.
-use Rattle.std.proofs.Common.{◌≡◌, ℕ, suc, zero, Bool, true, List, [], ◌∷◌, Option, Some, None, option_map, ◌++◌, ◌-◌, ◌||◌, length, nat_eq, nat_le, nat_lt, not, refl, slice_get}
+use Rattle.std.proofs.Common.{◌≡◌, ℕ, suc, zero, Bool, true, false, List, [], ◌∷◌, Option, Some, None, option_map, ◌++◌, ◌-◌, ◌||◌, length, nat_eq, nat_le, nat_lt, not, refl, slice_get}
 use Rattle.std.specs.Prelude.{option_to_list}
 use Rattle.std.specs.List.{list_all, list_any}
 use Rattle.aud_base.specs.Lists.{numbers_from}
@@ -19,8 +19,7 @@ use Rattle.aud_session_facts.specs.Marks.{turn_marks}
 use Rattle.aud_session_facts.specs.declared.marks.TurnMark.{TurnMark}
 use Rattle.aud_session_facts.specs.declared.place.RecordPlace.{RecordPlace}
 use Rattle.aud_causes.specs.declared.cause.Cause.{Cause}
-use Rattle.aud_causes.specs.declared.cause.Cause.TheVariants.{ClientTapHasNoPackets, EntriesSkippedByNode, EntryTakenAgain, MissingBack, MissingBreak, NoClientTap, NodeNotTapped, OpenedTwice, OpenNotRecorded, RecoveredTwice, ReplyMissing, TurnNotStored}
-use Rattle.aud_causes.specs.declared.turns.Unbroken.{Unbroken}
+use Rattle.aud_causes.specs.declared.cause.Cause.TheVariants.{ClientTapHasNoPackets, EntriesSkippedByNode, EntryTakenAgain, MissingBack, NoClientTap, NodeNotTapped, OpenedTwice, OpenNotRecorded, RecoveredTwice, ReplyMissing, TurnNotStored}
 use Rattle.aud_causes.specs.declared.twice.Twice.{Twice}
 use Rattle.aud_causes.specs.Bare.{bare_place, first_bare, tap_without_packets}
 use Rattle.aud_causes.specs.Chain.{chain_causes}
@@ -28,7 +27,7 @@ use Rattle.aud_causes.specs.Cleared.{broke_by, cleared_after_break, cleared_at, 
 use Rattle.aud_causes.specs.Logs.{first_cause, later_cause, order_cause, record_cause, recoveries, take_cause, taken_again, takes_cause, unknown}
 use Rattle.aud_causes.specs.Names.{client_causes, reply_missing, unnamed_from}
 use Rattle.aud_causes.specs.Recorded.{first_own, has_first_turn, is_node, no_log_causes, open_not_recorded, opener_not_tapped, order_causes}
-use Rattle.aud_causes.specs.Turns.{after_begin, begins_of, breaks_of, ends_of, is_broken, is_untapped, missing_back, missing_break, missing_breaks, missing_by, missing_causes, not_tapped, recovery_after, turn_count, unbegun, unbroken_at}
+use Rattle.aud_causes.specs.Turns.{after_begin, begins_of, breaks_of, ends_of, is_broken, is_untapped, missing_back, missing_break, missing_breaks, missing_by, missing_causes, not_tapped, recovery_after, turn_count, unbegun}
 use Rattle.aud_causes.specs.Differences.{cause_and}
 use Rattle.aud_causes.specs.Twice.{causes_of_twice, is_as_often, is_open, is_so, open_with, opened_after, opened_twice, recovered_twice, second_open, turn_not_stored, twice_at, twice_causes}
 use Rattle.aud_causes.proofs.Listed.Each.{OfSome, is_listed, of_and, of_both, of_choice, of_each, of_held, of_if, of_list, of_map, of_or, of_then}
@@ -60,9 +59,11 @@ not_tapped_listed broken turn (begin ∷ begins) =
     of_choice in_chain (is_untapped begin (slice_get broken turn)) (Some (NodeNotTapped turn)) (not_tapped broken (suc turn) begins)
     refl (not_tapped_listed broken (suc turn) begins)
 
-missing_break_listed : (turn : ℕ) (begin back : RecordPlace) (stay : Option ℕ) → in_chain (MissingBreak turn begin back stay) ≡ true
-missing_break_listed turn begin back (Some stay) = refl
-missing_break_listed turn begin back None = refl
+missing_break_listed : (turn : ℕ) (begin : Option (Option RecordPlace)) (broken ended : Option Bool) (back : Option (Option RecordPlace)) (stay : Option ℕ)
+    → OfSome in_chain (missing_by turn begin broken ended back stay)
+missing_break_listed turn (Some (Some begin)) (Some false) (Some false) (Some (Some back)) (Some stay) = refl
+missing_break_listed turn (Some (Some begin)) (Some false) (Some false) (Some (Some back)) None = refl
+missing_break_listed turn _ _ _ _ stay = tt
 
 missing_listed : (marks : List TurnMark) (begins : List (Option RecordPlace)) (broken ended : List Bool) (came : List ℕ)
     → list_all in_chain (missing_causes marks begins broken ended came) ≡ true
@@ -76,9 +77,8 @@ missing_listed marks begins broken ended came =
     (of_each in_chain (λ turn. option_to_list (missing_break begins broken ended came turn))
     (λ turn.
     of_list in_chain (missing_break begins broken ended came turn)
-    (of_map in_chain (missing_by (length begins) came)
-    (λ (u : Unbroken). missing_break_listed u.turn u.begin u.back (recovery_after (length begins) came u.turn))
-    (unbroken_at begins broken ended turn)))
+    (missing_break_listed turn (slice_get begins turn) (slice_get broken turn) (slice_get ended turn) (slice_get begins (suc turn))
+    (recovery_after (length begins) came turn)))
     (numbers_from 0 (length begins)))
 
 cleared_by_listed : (broke place : RecordPlace) (r : Option NodeRec) → OfSome in_chain (cleared_by broke place r)

@@ -14,14 +14,14 @@ use Rattle.aud_session_facts.specs.declared.marks.TurnMark.{TurnMark}
 use Rattle.aud_session_facts.specs.declared.place.RecordPlace.{RecordPlace}
 use Rattle.aud_session_facts.specs.Marks.{turn_marks}
 use Rattle.aud_causes.specs.declared.cause.Cause.{Cause}
-use Rattle.aud_causes.specs.declared.cause.Cause.TheVariants.{AskedTooEarly, NeverBroken, NodeEndedInTurn, SessionOver, UnknownOffset}
+use Rattle.aud_causes.specs.declared.cause.Cause.TheVariants.{AskedTooEarly, NeverBroken, NodeEndedInTurn, UnknownOffset}
 use Rattle.aud_causes.specs.declared.found.CauseFound.{CauseFound}
 use Rattle.aud_causes.specs.Candidates.{is_refusal_candidate}
 use Rattle.aud_causes.specs.Delivery.{cause_if}
 use Rattle.aud_causes.specs.Found.{CauseSeen, cause_seen, shown_among, shown_causes}
 use Rattle.aud_causes.specs.LastTurn.{is_ended, last_begin, last_turn}
 use Rattle.aud_causes.specs.NamedEntries.{is_named}
-use Rattle.aud_causes.specs.Refusals.{asked_too_early, broke_past, causes_of_asked, cursor_there, ended_in, first_open, got_of, last_break, last_record, never_broken, node_ended, offset_cause, over_by, refusal_causes, refused_causes, session_over, stay_causes, unknown_offset}
+use Rattle.aud_causes.specs.Refusals.{asked_too_early, broke_past, causes_of_asked, cursor_there, ended_in, first_open, got_of, last_break, last_record, never_broken, node_ended, offset_cause, over_by, refusal_causes, session_over, stay_causes, unknown_offset}
 use Rattle.aud_causes.specs.TakenBack.{marks_before}
 use Rattle.aud_causes.specs.Turns.{is_broken}
 use Rattle.aud_causes.specs.Words.{id_text}

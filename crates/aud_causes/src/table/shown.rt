@@ -111,6 +111,10 @@ pub(crate) fn shown_of(cause: Cause) -> Shown
             records: One(Node(last)),
             figures: [Some(Name(last.node)), Some(Number(high)), None],
         },
+        Cause::SentAfterEnd { end, high } => Shown {
+            records: One(Node(end)),
+            figures: [Some(Name(end.node)), Some(Number(high)), None],
+        },
         Cause::LateLeave { leave } => Shown {
             records: One(Node(leave)),
             figures: [None; 3],

@@ -131,6 +131,11 @@ pub(crate) fn words_of(cause: Cause) -> Words
             why: "The log of # ends in the session's last turn; the turns reach entry #.",
             todo: "write a node's log unbuffered, and stop the nodes after the clients.",
         },
+        Cause::SentAfterEnd { .. } => Words {
+            id: "sent-after-end",
+            why: "By its log # had ended the turn in which the event came, with its cursor at #.",
+            todo: "write `break` once nothing more is sent to the client; see whether the node sent on.",
+        },
         Cause::LateLeave { .. } => Words {
             id: "late-leave",
             why: "The session had left a room of the entry before it reached the entry.",

@@ -14,7 +14,7 @@ cause_names =
     ∷ codes "body-came-twice" ∷ codes "offset-of-another-session" ∷ codes "frame-not-recorded" ∷ codes "unknown-offset"
     ∷ codes "no-offset" ∷ codes "lost-live" ∷ codes "doubled-live" ∷ codes "swapped-live"
     ∷ codes "another-encoder" ∷ codes "attachments-reordered" ∷ codes "another-event" ∷ codes "altered"
-    ∷ codes "log-ended-early" ∷ codes "late-leave" ∷ codes "before-birth" ∷ codes "extra-live"
+    ∷ codes "log-ended-early" ∷ codes "sent-after-end" ∷ codes "late-leave" ∷ codes "before-birth" ∷ codes "extra-live"
     ∷ codes "join-missing" ∷ codes "leave-missing" ∷ codes "recovery-not-recorded" ∷ codes "missing-break"
     ∷ codes "missing-back" ∷ codes "cleared-after-break" ∷ codes "turn-not-stored" ∷ codes "recovered-twice" ∷ codes "opened-twice"
     ∷ codes "node-not-tapped" ∷ codes "open-not-recorded" ∷ codes "no-start" ∷ codes "restarted-in-old-log"

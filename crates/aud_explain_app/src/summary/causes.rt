@@ -13,7 +13,7 @@ pub struct CausesTold {
     pub others: usize,
 }
 
-static NAMES: [&str; 57] = [
+static NAMES: [&str; 58] = [
     "node-behind-break",
     "sent-again-after-replay",
     "replay-includes-offset",
@@ -35,6 +35,7 @@ static NAMES: [&str; 57] = [
     "another-event",
     "altered",
     "log-ended-early",
+    "sent-after-end",
     "late-leave",
     "before-birth",
     "extra-live",

@@ -39,7 +39,7 @@ static FAULTS: [&str; 13] = [
     r#"explain --json --pid p1
 1 1 c1@1 lose j1:r e:a:r t1
 -> Ok(SomeNo)
-*"causes":[{"id":"extra-live",*"of":"fault","of_line":null,"state":"fits","sure":false,*},{"id":"join-missing",*"of":"fault","of_line":null,"state":"fits","sure":false,*}],"causes_left":0,"class":*"fault":"EXTRA",*"refused":[],"refused_left":0,"refuted":["node-behind-break","rooms-at-break","offset-of-another-session","log-ended-early","late-leave","before-birth","leave-missing","recovery-not-recorded"],"tail":*"#,
+*"causes":[{"id":"extra-live",*"of":"fault","of_line":null,"state":"fits","sure":false,*},{"id":"join-missing",*"of":"fault","of_line":null,"state":"fits","sure":false,*}],"causes_left":0,"class":*"fault":"EXTRA",*"refused":[],"refused_left":0,"refuted":["node-behind-break","rooms-at-break","offset-of-another-session","log-ended-early","sent-after-end","late-leave","before-birth","leave-missing","recovery-not-recorded"],"tail":*"#,
     r#"explain --json --pid p1
 1 1 c1@1 e:a e:b double1 t1 t1
 -> Ok(SomeNo)

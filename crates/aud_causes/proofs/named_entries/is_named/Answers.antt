@@ -1,4 +1,4 @@
-use Rattle.std.proofs.Common.{◌∙◌, ◌||◌, ap, arith, sym}
+use Rattle.std.proofs.Common.{◌∙◌, ◌||◌, ap, sym}
 use Rattle.std.specs.List.{list_any}
 use Rattle.aud_base.specs.Lists.{numbers_from}
 use Rattle.aud_causes.specs.NamedEntries.{is_named_at}
