@@ -3,13 +3,13 @@ use Rattle.std.proofs.Common.{◌≡◌, ℕ, Bool, true, false, ◌||◌, List,
 use Rattle.std.specs.Ordering.{nat_cmp, match_ordering}
 use Rattle.std.specs.Cmp.Lexicographic.{slice_cmp}
 use Rattle.std.specs.declared.cmp.Ordering.TheVariants.{Less, Equal, Greater}
-use Rattle.serde_json.specs.Data.{Data, Members, no_members, member, number, unsigned, put}
+use Rattle.serde_json.specs.Data.{Members, no_members, member, number, unsigned, put}
 use Rattle.serde_json.specs.Written.{has_float, members_have_float}
 use Rattle.aud_node.specs.Stream.{Text}
 use Rattle.aud_explain_app.specs.declared.summary.causes.CausesTold.{CausesTold}
 use Rattle.aud_explain_app.specs.declared.summary.Summary.{Summary}
 use Rattle.aud_explain_app.specs.Summary.Causes.{cause_names, count_with}
-use Rattle.aud_explain_app.specs.Summary.Json.{causes_data, summary_data, with_cause}
+use Rattle.aud_explain_app.specs.Summary.Json.{summary_data, with_cause}
 
 -- neither holds where one of both does not
 or-parts : (a b : Bool) → (a || b) ≡ false → (a ≡ false) × (b ≡ false)

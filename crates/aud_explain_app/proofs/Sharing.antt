@@ -14,7 +14,7 @@ use Rattle.aud_findings.specs.Prepared.{IsOrderRead}
 use Rattle.aud_findings.specs.ShowsOrder.{places_in}
 use Rattle.aud_session_facts.specs.declared.place.RecordPlace.{RecordPlace}
 use Rattle.aud_verdict.specs.declared.verdict.SessionVerdict.{SessionVerdict}
-use Rattle.aud_explain_app.specs.Alike.{Telling, is_at, is_unordered, numbers_at, shared_record, told_at, told_by}
+use Rattle.aud_explain_app.specs.Alike.{Telling, is_at, is_unordered, numbers_at, shared_records, told_at, told_by}
 
 -- ---- the nodes that are out of order
 
@@ -79,13 +79,13 @@ numbers_lent c sessions spot = λ i. places_where (λ k. at k i) (sym (length-ma
 
 -- what is told of one more session
 pub told_more : (c : Cluster) (sessions : List (Bor SessionVerdict)) (i : ℕ) (s : Bor SessionVerdict) (old new : List Telling) → i < length sessions → s ≡ get_or sessions i s
-    → old ≡ flat_map (told_at c (lent sessions)) (numbers_from 0 i) → new ≡ old ++ told_by c (lent sessions) i s.now (shared_record c s.now)
+    → old ≡ flat_map (told_at c (lent sessions)) (numbers_from 0 i) → new ≡ old ++ told_by c (lent sessions) i s.now (shared_records c s.now)
     → new ≡ flat_map (told_at c (lent sessions)) (numbers_from 0 (i + 1))
 told_more c sessions i s old new within is was more =
     let told = told_at c (lent sessions) in
     let there = slice_get-map (λ (b : Bor SessionVerdict). b.now) sessions i ∙ ap (option_map (λ (b : Bor SessionVerdict). b.now)) (slice_get_read sessions (length sessions) i s refl within is) in
-    let own : told i ≡ told_by c (lent sessions) i s.now (shared_record c s.now) = ap (λ o. option_map_or (λ v. told_by c (lent sessions) i v (shared_record c v)) o []) there in
-    more ∙ ap (λ ts. ts ++ told_by c (lent sessions) i s.now (shared_record c s.now)) was
+    let own : told i ≡ told_by c (lent sessions) i s.now (shared_records c s.now) = ap (λ o. option_map_or (λ v. told_by c (lent sessions) i v (shared_records c v)) o []) there in
+    more ∙ ap (λ ts. ts ++ told_by c (lent sessions) i s.now (shared_records c s.now)) was
     ∙ ap (λ ts. flat_map told (numbers_from 0 i) ++ ts) (sym own)
     ∙ sym (ap (flat_map told) (numbers_from-more i) ∙ flat_map-append told (numbers_from 0 i) (i ∷ []) ∙ ap (λ ts. flat_map told (numbers_from 0 i) ++ ts) (append-nil (told i)))
 

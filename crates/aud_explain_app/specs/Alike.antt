@@ -44,25 +44,25 @@ abbrev pub records_of : Fault → List Tap → List ℕ → Option Text
 records_of fault taps places = if is_empty places then None else Some (fault_word fault ++ flat_map (λ place. tap_name (slice_get taps place)) places)
 
 -- those at which the fault of the session with this pid shows
-abbrev pub fault_record : Cluster → Text → Fault → Option Text
-fault_record c pid fault = records_of fault c.taps (taps_of c pid fault)
+abbrev pub fault_records : Cluster → Text → Fault → Option Text
+fault_records c pid fault = records_of fault c.taps (taps_of c pid fault)
 
 -- the same by the verdict: none where it is yes
-abbrev pub verdict_record : Cluster → Text → Verdict → Option Text
-verdict_record c pid (Yes got tail turns) = None
-verdict_record c pid (No fault) = fault_record c pid fault
+abbrev pub verdict_records : Cluster → Text → Verdict → Option Text
+verdict_records c pid (Yes got tail turns) = None
+verdict_records c pid (No fault) = fault_records c pid fault
 
--- the record that the session may share with others; what one missed whose recovery was refused is its own
-abbrev pub shared_record : Cluster → SessionVerdict → Option Text
-shared_record c session = if has_refused c session.pid then None else verdict_record c session.pid session.verdict
+-- the records that the session may share with others; what one missed whose recovery was refused is its own
+abbrev pub shared_records : Cluster → SessionVerdict → Option Text
+shared_records c session = if has_refused c session.pid then None else verdict_records c session.pid session.verdict
 
--- ---- sessions that share it
+-- ---- sessions that share them
 
--- the session has this one
+-- the session has these
 abbrev pub is_at : Cluster → Text → SessionVerdict → Bool
-is_at c spot session = is_this spot (shared_record c session)
+is_at c spot session = is_this spot (shared_records c session)
 
--- the numbers of the sessions that have it
+-- the numbers of the sessions that have them
 abbrev pub numbers_at : Cluster → List SessionVerdict → Text → List ℕ
 numbers_at c sessions spot = places_where (λ k. option_map_or (is_at c spot) (slice_get sessions k) false) (length sessions)
 
@@ -88,21 +88,21 @@ telling_of told = record { session = told.session.now; alike = map (λ pid. pid.
 abbrev pub alone : SessionVerdict → Telling
 alone session = record { session = session; alike = [] }
 
--- of the sessions with these numbers, which share a record, the first is told, and names the others
+-- of the sessions with these numbers, which share records, the first is told, and names the others
 abbrev pub told_first : List SessionVerdict → ℕ → SessionVerdict → List ℕ → List Telling
 told_first sessions number session [] = []
 told_first sessions number session (first ∷ others) = if nat_eq first number then record { session = session; alike = pids_at sessions others } ∷ [] else []
 
--- what is told of the session with this number, with this record
+-- what is told of the session with this number, with these records
 abbrev pub told_by : Cluster → List SessionVerdict → ℕ → SessionVerdict → Option Text → List Telling
 told_by c sessions number session None = alone session ∷ []
 told_by c sessions number session (Some spot) = told_first sessions number session (numbers_at c sessions spot)
 
 -- what is told of the session with this number
 abbrev pub told_at : Cluster → List SessionVerdict → ℕ → List Telling
-told_at c sessions number = option_map_or (λ session. told_by c sessions number session (shared_record c session)) (slice_get sessions number) []
+told_at c sessions number = option_map_or (λ session. told_by c sessions number session (shared_records c session)) (slice_get sessions number) []
 
--- those that share a record are told once
+-- those that share records are told once
 abbrev pub told_once : Cluster → List SessionVerdict → List Telling
 told_once c sessions = flat_map (told_at c sessions) (numbers_from 0 (length sessions))
 

@@ -1,5 +1,5 @@
 //! Sessions with the same fault at the same record.
-ghost use Rattle.std.specs.Prelude.{◌≡◌, ◌++◌, IfOk, OnOk, filter, map, option_map, option_to_list, string_bytes};
+ghost use Rattle.std.specs.Prelude.{◌≡◌, ◌++◌, IfOk, OnOk, filter, map, option_map, string_bytes};
 ghost use Rattle.std.specs.Option.{option_copied};
 ghost use Rattle.aud_base.specs.Places.{noted, places_of};
 ghost use Rattle.aud_node.specs.Cluster.{Cluster};
@@ -7,7 +7,7 @@ ghost use Rattle.aud_node.specs.OwnPlaces.{own_places};
 ghost use Rattle.aud_node.specs.Stream.{Text};
 ghost use Rattle.aud_client.specs.Replies.{is_this};
 ghost use Rattle.aud_findings.specs.Prepared.{IsPreparedOf};
-ghost use Rattle.aud_explain_app.specs.Alike.{alone, is_unordered, numbers_at, pid_of, pids_at, records_of, shared_record, tap_name, taps_of, telling_of, tellings, told_by, told_first, told_once};
+ghost use Rattle.aud_explain_app.specs.Alike.{alone, is_unordered, numbers_at, pid_of, pids_at, records_of, shared_records, tap_name, taps_of, telling_of, tellings, told_by, told_first, told_once};
 ghost use Rattle.aud_explain_app.specs.Asked.{AreAsked};
 
 use crate::asked::Asked;
@@ -30,8 +30,8 @@ pub struct Told<'s> {
     pub alike: Vec<&'s str>,
 }
 
-/// What is told of the sessions that are shown: those with the same fault at the same record once, or each, where these
-/// pids name them. Records are looked up by these keys.
+/// What is told of the sessions that are shown: those with the same fault at the same records once, or each, where
+/// these pids name them. Records are looked up by these keys.
 pub(crate) fn tellings<'s>(
     recording: &Recording<'_>,
     alloc: Global,
@@ -77,7 +77,7 @@ fn alone<'s>(alloc: Global, session: &'s SessionVerdict) -> Told<'s>
     }
 }
 
-/// Of the sessions those that share a record once: the first, which names the others.
+/// Of the sessions those that share records once: the first, which names the others.
 fn told_once<'s>(
     recording: &Recording<'_>,
     alloc: Global,
@@ -94,7 +94,7 @@ fn told_once<'s>(
     let index = by_record(recording, alloc, keys, prepared, asked, sessions)?;
     let mut told = Vec::new(alloc);
     for (number, session) in sessions.iter().enumerate() {
-        let at = shared_record(recording, alloc, prepared, asked, *session)?;
+        let at = shared_records(recording, alloc, prepared, asked, *session)?;
         push_told(
             &mut told,
             alloc,
@@ -108,7 +108,7 @@ fn told_once<'s>(
     Ok(told)
 }
 
-/// The numbers of the sessions by the record that they share.
+/// The numbers of the sessions by the records that they share.
 fn by_record(
     recording: &Recording<'_>,
     alloc: Global,
@@ -124,13 +124,13 @@ fn by_record(
 {
     let mut index = Places::new(alloc, keys);
     for (number, session) in sessions.iter().enumerate() {
-        let at = shared_record(recording, alloc, prepared, asked, *session)?;
+        let at = shared_records(recording, alloc, prepared, asked, *session)?;
         note_at(&mut index, number, at.as_deref())?;
     }
     Ok(index)
 }
 
-/// Notes the number under this record, if there is one.
+/// Notes the number under these records, if there are some.
 fn note_at(index: &mut Places, number: usize, at: Option<&str>) -> Result<(), AllocError>
     ensures { OnOk result ((spot : Text)
         → places_of index.new spot
@@ -142,7 +142,8 @@ fn note_at(index: &mut Places, number: usize, at: Option<&str>) -> Result<(), Al
     }
 }
 
-/// Adds what is told of the session with this number, with this record, by the numbers of those that share it.
+/// Adds what is told of the session with this number, with these records, by the numbers of those that share
+/// them.
 fn push_told<'s>(
     told: &mut Vec<Told<'s>>,
     alloc: Global,
@@ -220,7 +221,7 @@ fn push_pid<'s>(
 }
 
 /// The records that the session may share with others.
-fn shared_record(
+fn shared_records(
     recording: &Recording<'_>,
     alloc: Global,
     prepared: &Prepared,
@@ -230,7 +231,7 @@ fn shared_record(
     requires prepared { IsPreparedOf recording.now prepared.now }
     requires asked { AreAsked recording.now asked.now }
     ensures { IfOk result (λ at. option_map string_bytes at
-        ≡ shared_record recording.now session.now) }
+        ≡ shared_records recording.now session.now) }
 {
     let pid = session.pid.as_str();
     if asked.is_refused(pid) {
@@ -293,7 +294,7 @@ fn taps_of(
 {
     match fault {
         Fault::Order => unordered_nodes(recording, alloc, prepared, pid),
-        Fault::Frame | Fault::Orphan => place_of(alloc, only_client(recording, pid)),
+        Fault::Frame | Fault::Orphan => only_client(recording, pid).into_iter().collect(alloc),
         _ => Ok(Vec::new(alloc)),
     }
 }
@@ -317,20 +318,5 @@ fn unordered_nodes(
 fn nodes_of(alloc: Global, found: &[RecordPlace]) -> Result<Vec<usize>, AllocError>
     ensures { IfOk result (λ nodes. nodes.items ≡ map (λ at. at.node) found.now) }
 {
-    let mut nodes = Vec::new(alloc);
-    for at in found {
-        nodes.push(at.node)?;
-    }
-    Ok(nodes)
-}
-
-/// The place, if there is one.
-fn place_of(alloc: Global, place: Option<usize>) -> Result<Vec<usize>, AllocError>
-    ensures { IfOk result (λ places. places.items ≡ option_to_list place) }
-{
-    let mut places = Vec::new(alloc);
-    if let Some(place) = place {
-        places.push(place)?;
-    }
-    Ok(places)
+    found.iter().map(|at| at.node).collect(alloc)
 }

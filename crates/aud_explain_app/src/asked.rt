@@ -91,13 +91,11 @@ fn numbered(alloc: Global, all: &[Recovery], numbers: &[usize]) -> Result<Vec<Re
 pub(crate) fn refused_among(alloc: Global, asked: &[Recovery]) -> Result<Vec<Recovery>, AllocError>
     ensures { IfOk result (λ found. found.items ≡ filter is_refused asked.now) }
 {
-    let mut found = Vec::new(alloc);
-    for recovery in asked {
-        if !recovery.granted {
-            found.push(*recovery)?;
-        }
-    }
-    Ok(found)
+    asked
+        .iter()
+        .copied()
+        .filter(|recovery| !recovery.granted)
+        .collect(alloc)
 }
 
 /// Of each session the numbers of those of the recoveries that are of it.
@@ -112,15 +110,15 @@ fn numbers_by_session(
 {
     let mut numbers = Places::new(alloc, keys);
     for (number, recovery) in all.iter().enumerate() {
-        note_number(&mut numbers, recording, number, recovery)?;
+        note_number(recording, &mut numbers, number, recovery)?;
     }
     Ok(numbers)
 }
 
 /// Notes the recovery with this number.
 fn note_number(
-    numbers: &mut Places,
     recording: &Recording<'_>,
+    numbers: &mut Places,
     number: usize,
     recovery: &Recovery,
 ) -> Result<(), AllocError>

@@ -1,10 +1,9 @@
 //! What the explanation of a session tells of causes.
 ghost use Rattle.std.specs.Prelude.{◌≡◌, ◌++◌, IfOk, OnOk, map};
 ghost use Rattle.aud_explain_app.specs.Summary.Causes.{name_of};
-ghost use Rattle.aud_explain_app.specs.CausesTold.{AreCausesTold, is_unknown, names_of, names_of_refusals};
+ghost use Rattle.aud_explain_app.specs.CausesTold.{AreCausesTold, is_unknown, names_of};
 
 use crate::explained::Explained;
-use crate::refused_told::RefusedTold;
 use crate::summary::causes::CausesTold;
 use aud_causes::{CauseFound, refuted};
 use aud_verdict::Verdict;
@@ -23,7 +22,9 @@ pub(crate) fn causes_told(
     let is_unknown = is_unknown(alloc, verdict, &explained.causes)?;
     let mut ids: Vec<&'static str> = Vec::new(alloc);
     push_names(&mut ids, &explained.causes)?;
-    push_refused(&mut ids, &explained.refused)?;
+    for told in &explained.refused {
+        push_names(&mut ids, &told.causes)?;
+    }
     Ok(CausesTold {
         ids,
         is_unknown,
@@ -49,17 +50,6 @@ fn push_names(ids: &mut Vec<&'static str>, causes: &[CauseFound]) -> Result<(), 
 {
     for cause in causes {
         ids.push(cause.id)?;
-    }
-    Ok(())
-}
-
-/// Adds those of the causes of these refusals.
-fn push_refused(ids: &mut Vec<&'static str>, refused: &[RefusedTold<'_>]) -> Result<(), AllocError>
-    ensures { OnOk result (map name_of ids.new.items
-        ≡ map name_of ids.old.items ++ names_of_refusals refused.now) }
-{
-    for told in refused {
-        push_names(ids, &told.causes)?;
     }
     Ok(())
 }

@@ -4,7 +4,7 @@ ghost use Rattle.std.specs.Option.{option_copied};
 ghost use Rattle.aud_client.specs.Replies.{naming_places};
 ghost use Rattle.aud_findings.specs.ClientShown.{only_of};
 ghost use Rattle.aud_rows.specs.ClientPlaces.{AreOf};
-ghost use Rattle.aud_explain_app.specs.Events.{AreEvents, AreEventsAt, is_named, place_of, stays_unnamed};
+ghost use Rattle.aud_explain_app.specs.Events.{AreEvents, is_named, place_of, stays_unnamed};
 
 use aud_client::Recording;
 use aud_explanation::ClientEvent;
@@ -36,35 +36,19 @@ pub(crate) fn events_of(
     ensures { IfOk result (λ events. AreEvents sheet.now.recording.now sheet.now.lines.now
         (place_of (option_copied tap.entry)) pid.now asked.now events.items) }
 {
-    match tap {
-        Some(tap) => events_at(alloc, sheet, tap, pid, asked),
-        None => Ok(Vec::new(alloc)),
-    }
-}
-
-/// The same in the tap of its client.
-fn events_at(
-    alloc: Global,
-    sheet: &Sheet<'_, '_>,
-    tap: &ClientPlaces,
-    pid: &str,
-    asked: &[Recovery],
-) -> Result<Vec<ClientEvent>, AllocError>
-    requires { AreOf sheet.now.recording.now tap.now }
-    ensures { IfOk result (λ events.
-        AreEventsAt sheet.now.recording.now sheet.now.lines.now tap.now.place pid.now asked.now
-        events.items) }
-{
+    let Some(tap) = tap else {
+        return Ok(Vec::new(alloc));
+    };
     let mut numbers = Vec::new(alloc);
     numbers.extend_from_slice(numbers_naming(sheet.recording, tap.place, pid))?;
-    push_unnamed(&mut numbers, sheet.recording, tap.place, pid, asked)?;
+    push_unnamed(sheet.recording, &mut numbers, tap.place, pid, asked)?;
     client_events(alloc, sheet, tap, pid, numbers.as_slice())
 }
 
 /// Adds the stays of those of the recoveries that are of the client at this place, where no reply names the session.
 fn push_unnamed(
-    numbers: &mut Vec<usize>,
     recording: &Recording<'_>,
+    numbers: &mut Vec<usize>,
     place: usize,
     pid: &str,
     asked: &[Recovery],

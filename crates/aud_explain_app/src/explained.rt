@@ -8,7 +8,6 @@ ghost use Rattle.aud_findings.specs.Prepared.{IsPreparedOf};
 ghost use Rattle.aud_explain_app.specs.Events.{place_of};
 ghost use Rattle.aud_explain_app.specs.Explained.{IsExplained};
 
-use crate::asked::refused_among;
 use crate::events::{events_of, only_client};
 use crate::noted::noted_of;
 use crate::refused_told::{RefusedTold, all_refused};
@@ -82,15 +81,14 @@ fn explained_by<'r, 'a>(
     ensures { IfOk result (IsExplained sheet.entry.recording.now sheet.entry.lines.now pid.now
         verdict.now asked.now) }
 {
+    let events = events_of(alloc, &sheet, tap, pid, asked)?;
     let account = account_of(alloc, sheet.recording, pid)?;
     let account = account.as_ref();
-    let outcome = outcome_of(alloc, sheet, prepared, pid, verdict, account)?;
-    let turns = turns_of(alloc, &sheet, pid, account)?;
     let noted = noted_of(alloc, sheet.recording, prepared, pid, verdict, account)?;
     let causes = causes_of(alloc, sheet, tap, pid, verdict, account, &noted)?;
-    let events = events_of(alloc, &sheet, tap, pid, asked)?;
-    let refused = refused_among(alloc, asked)?;
-    let refused = all_refused(alloc, &sheet, prepared, refused.as_slice())?;
+    let turns = turns_of(alloc, &sheet, pid, account)?;
+    let outcome = outcome_of(alloc, sheet, prepared, pid, verdict, account)?;
+    let refused = all_refused(alloc, &sheet, prepared, asked)?;
     Ok(Explained {
         outcome,
         turns,

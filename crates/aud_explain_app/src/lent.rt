@@ -4,7 +4,7 @@ ghost use Rattle.aud_explanation.specs.declared.cause.CauseOf.TheVariants.{Fault
 ghost use Rattle.aud_findings.specs.Also.{also_seen};
 ghost use Rattle.std.specs.Option.{option_copied, option_map};
 ghost use Rattle.aud_findings.specs.Refused.{missed_seen};
-ghost use Rattle.aud_explain_app.specs.Lent.{also_told, ask_line, cause_of, cause_told, causes_of_refusal, causes_of_refusals, recoveries_shown, recovery_of, recovery_told, shown_of};
+ghost use Rattle.aud_explain_app.specs.Lent.{also_told, ask_line, cause_of, cause_told, causes_of_refusal, causes_of_refusals, recoveries_shown, recovery_told, shown_of};
 
 use crate::refused_told::RefusedTold;
 use aud_causes::CauseFound;
@@ -53,25 +53,16 @@ fn push_recovery<'l, 'r>(
         ≡ map recovery_told lent.old.items ++ shown_of told.now) }
 {
     if let Some(shown) = &told.shown {
-        lent.push(recovery_lent(told, shown))?;
+        lent.push(RefusedRecovery {
+            ask: shown.ask,
+            reply: shown.reply,
+            instead: shown.instead,
+            missed: missed_lent(shown),
+            has_cause: !told.causes.is_empty(),
+            refuted: told.refuted.as_slice(),
+        })?;
     }
     Ok(())
-}
-
-fn recovery_lent<'l, 'r>(
-    told: &'l RefusedTold<'r>,
-    shown: &'l RefusedShown<'r>,
-) -> RefusedRecovery<'l, 'r>
-    ensures { recovery_told result ≡ recovery_of told.now shown.now }
-{
-    RefusedRecovery {
-        ask: shown.ask,
-        reply: shown.reply,
-        instead: shown.instead,
-        missed: missed_lent(shown),
-        has_cause: !told.causes.is_empty(),
-        refuted: told.refuted.as_slice(),
-    }
 }
 
 fn missed_lent<'l, 'r>(shown: &'l RefusedShown<'r>) -> Option<&'l [Missed<'r>]>
@@ -127,20 +118,14 @@ fn each_lent<'l>(
 {
     let mut lent = Vec::new(alloc);
     for cause in causes {
-        lent.push(cause_lent(of, cause))?;
+        lent.push(Cause {
+            id: cause.id,
+            of,
+            state: cause.state,
+            lines: cause.lines.as_slice(),
+            why: cause.why.as_str(),
+            todo: cause.todo,
+        })?;
     }
     Ok(lent)
-}
-
-fn cause_lent<'l>(of: CauseOf, cause: &'l CauseFound) -> Cause<'l>
-    ensures { cause_told result ≡ cause_of of cause.now }
-{
-    Cause {
-        id: cause.id,
-        of,
-        state: cause.state,
-        lines: cause.lines.as_slice(),
-        why: cause.why.as_str(),
-        todo: cause.todo,
-    }
 }

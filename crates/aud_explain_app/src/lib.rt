@@ -62,7 +62,6 @@ pub use summary::classes::Classes;
 pub use summary::entries::Entries;
 pub use summary::faults::Faults;
 pub use summary::json::summary_json;
-pub use summary::recoveries::Recoveries;
 pub use summary::tails::Tails;
 pub use summary::text::summary_text;
-pub use summary::{Input, Summary, says_nothing, summary_of};
+pub use summary::{Input, Recoveries, Summary, says_nothing, summary_of};

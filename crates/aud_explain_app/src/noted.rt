@@ -2,13 +2,14 @@
 ghost use Rattle.std.specs.Prelude.{◌≡◌, IfOk};
 ghost use Rattle.std.specs.Option.{option_copied, option_map};
 ghost use Rattle.aud_findings.specs.Prepared.{IsPreparedOf};
-ghost use Rattle.aud_explain_app.specs.Noted.{IsOrphanNoted, IsUnorderedNoted, IsNoted};
+ghost use Rattle.aud_cert.specs.declared.fault.Fault.TheVariants.{Orphan};
+ghost use Rattle.aud_explain_app.specs.Noted.{IsOrphanNoted, IsNoted};
 
 use aud_causes::Noted;
 use aud_cert::Fault;
 use aud_client::Recording;
 use aud_findings::{Prepared, orphan_in, unordered_of};
-use aud_session_facts::{Account, RecordPlace};
+use aud_session_facts::Account;
 use aud_verdict::Verdict;
 use std::alloc::{AllocError, Global};
 
@@ -27,56 +28,33 @@ pub(crate) fn noted_of(
         (option_map (λ a. a.client) (option_copied account.entry))) }
 {
     match verdict {
-        Verdict::Yes { .. } => Ok(Noted {
+        Verdict::No(Fault::Order) => Ok(Noted {
+            unordered: unordered_of(alloc, recording.logs(), prepared, pid)?,
+            orphan: None,
+        }),
+        Verdict::No(Fault::Orphan) => Ok(Noted {
+            unordered: Vec::new(alloc),
+            orphan: orphan_noted(recording, prepared, account),
+        }),
+        _ => Ok(Noted {
             unordered: Vec::new(alloc),
             orphan: None,
         }),
-        Verdict::No(fault) => {
-            let orphan = orphan_noted(recording, prepared, fault, place_of(account));
-            let unordered = unordered_noted(alloc, recording, prepared, pid, fault)?;
-            Ok(Noted { unordered, orphan })
-        }
     }
 }
 
-/// The place of the client's tap, if there is an account.
-fn place_of(account: Option<&Account<'_, '_>>) -> Option<usize>
-    ensures { result ≡ option_map (λ a. a.client) (option_copied account.entry) }
-{
-    match account {
-        Some(account) => Some(account.client),
-        None => None,
-    }
-}
-
-fn unordered_noted(
-    alloc: Global,
-    recording: &Recording<'_>,
-    prepared: &Prepared,
-    pid: &str,
-    fault: &Fault,
-) -> Result<Vec<RecordPlace>, AllocError>
-    requires { IsPreparedOf recording.now prepared.now }
-    ensures { IfOk result (λ found.
-        IsUnorderedNoted recording.now pid.now fault.now found.items) }
-{
-    match fault {
-        Fault::Order => unordered_of(alloc, recording.logs(), prepared, pid),
-        _ => Ok(Vec::new(alloc)),
-    }
-}
-
+/// The first stay of the client's tap with events of which nobody knows the session, if there is an account.
 fn orphan_noted(
     recording: &Recording<'_>,
     prepared: &Prepared,
-    fault: &Fault,
-    client: Option<usize>,
+    account: Option<&Account<'_, '_>>,
 ) -> Option<usize>
     requires { IsPreparedOf recording.now prepared.now }
-    ensures { IsOrphanNoted recording.now fault.now client result }
+    ensures { IsOrphanNoted recording.now Orphan
+        (option_map (λ a. a.client) (option_copied account.entry)) result }
 {
-    match (fault, client) {
-        (Fault::Orphan, Some(client)) => orphan_in(recording, prepared, client),
-        _ => None,
+    match account {
+        Some(account) => orphan_in(recording, prepared, account.client),
+        None => None,
     }
 }

@@ -130,24 +130,14 @@ fn seconds_since<H: Clock>(rt: &H, start: Option<Instant>) -> u64 {
     }
 }
 
-fn input_of(size: Size, seconds: u64) -> Input
-    ensures { (result.lines ≡ size.lines) × (result.bytes ≡ size.bytes) }
-{
-    Input {
-        lines: size.lines,
-        bytes: size.bytes,
-        seconds,
-    }
-}
-
 /// The explanations, and the summary of what was read since `start`. The lines are those of the records, in these files.
 pub(crate) fn output_of<'o, H: Threads + Wait + Clock + Sync>(
     rt: &H,
     alloc: Global,
     keys: RandomState,
+    recorded: &Recorded,
     options: &'o ExplainOptions,
     start: Option<Instant>,
-    recorded: &Recorded,
     lines: &RecordLines,
     files: &[InputFile],
 ) -> Result<Told<'o>, Unexplained>
@@ -169,9 +159,9 @@ pub(crate) fn output_of<'o, H: Threads + Wait + Clock + Sync>(
         rt,
         alloc,
         keys,
+        sheet,
         options,
         start,
-        sheet,
         files,
         recorded.size,
         report.verdicts,
@@ -183,9 +173,9 @@ fn explaining<'o, H: Threads + Clock + Sync>(
     rt: &H,
     alloc: Global,
     keys: RandomState,
+    sheet: Sheet<'_, '_>,
     options: &'o ExplainOptions,
     start: Option<Instant>,
-    sheet: Sheet<'_, '_>,
     files: &[InputFile],
     size: Size,
     verdicts: Vec<SessionVerdict>,
@@ -198,7 +188,7 @@ fn explaining<'o, H: Threads + Clock + Sync>(
         → first_missing (pids_known sheet.entry.recording.now) options.now.pids ≡ Some number }
 {
     let asked = Asked::read(alloc, keys, sheet.recording)?;
-    let figures = figures_of(options, sheet.recording, &asked, size, &verdicts);
+    let figures = figures_of(sheet.recording, options, &asked, size, &verdicts);
     let mut sessions = verdicts;
     add_strangers(
         alloc,
@@ -208,7 +198,7 @@ fn explaining<'o, H: Threads + Clock + Sync>(
         &asked,
         &mut sessions,
     )?;
-    let told = told_sessions(rt, alloc, keys, options, sheet, files, &asked, &sessions)?;
+    let told = told_sessions(rt, alloc, keys, sheet, options, files, &asked, &sessions)?;
     let Explanations {
         text,
         causes,
@@ -226,8 +216,8 @@ fn explaining<'o, H: Threads + Clock + Sync>(
 
 /// The figures of the recording, with no time yet, and how the run ends.
 fn figures_of(
-    options: &ExplainOptions,
     recording: &Recording<'_>,
+    options: &ExplainOptions,
     asked: &Asked,
     size: Size,
     verdicts: &[SessionVerdict],
@@ -235,7 +225,12 @@ fn figures_of(
     requires { AreAsked recording.now asked.now }
     ensures { AreFigures options.now recording.now size verdicts.now result }
 {
-    let summary = summary_of(recording, verdicts, &asked.all, input_of(size, 0));
+    let input = Input {
+        lines: size.lines,
+        bytes: size.bytes,
+        seconds: 0,
+    };
+    let summary = summary_of(recording, verdicts, &asked.all, input);
     Figures {
         summary,
         status: status_by(
@@ -265,8 +260,8 @@ fn told_sessions<'o, H: Threads + Sync>(
     rt: &H,
     alloc: Global,
     keys: RandomState,
-    options: &'o ExplainOptions,
     sheet: Sheet<'_, '_>,
+    options: &'o ExplainOptions,
     files: &[InputFile],
     asked: &Asked,
     sessions: &[SessionVerdict],

@@ -19,34 +19,17 @@ pub(crate) fn prepared_for(
 ) -> Result<Prepared, AllocError>
     ensures { IfOk result (IsPreparedOf recording.now) }
 {
-    let places = places_of(alloc, recording, asked, sessions)?;
-    Prepared::read(alloc, recording, places.as_slice(), has_order(sessions))
-}
-
-/// The places of the clients' taps.
-fn places_of(
-    alloc: Global,
-    recording: &Recording<'_>,
-    asked: &Asked,
-    sessions: &[&SessionVerdict],
-) -> Result<Vec<usize>, AllocError> {
     let mut places = Vec::new(alloc);
+    let mut orders = false;
     for session in sessions {
         let pid = session.pid.as_str();
         places.extend_from_slice(recording.naming(pid))?;
         for recovery in &asked.of(alloc, pid)? {
             places.push(recovery.client)?;
         }
-    }
-    Ok(places)
-}
-
-/// Whether one of them is answered no for a node that is out of order.
-fn has_order(sessions: &[&SessionVerdict]) -> bool {
-    for session in sessions {
         if let Verdict::No(Fault::Order) = &session.verdict {
-            return true;
+            orders = true;
         }
     }
-    false
+    Prepared::read(alloc, recording, places.as_slice(), orders)
 }

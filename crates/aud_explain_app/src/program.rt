@@ -38,9 +38,9 @@ fn told_with<'o, H: Threads + Wait + Clock + Sync>(
     rt: &H,
     alloc: Global,
     keys: RandomState,
+    recorded: &Recorded,
     options: &'o ExplainOptions,
     start: Option<Instant>,
-    recorded: &Recorded,
     lines: &RecordLines,
     files: &[InputFile],
 ) -> Result<Told<'o>, ExplainFault>
@@ -52,12 +52,12 @@ fn told_with<'o, H: Threads + Wait + Clock + Sync>(
 {
     let records = options.records.as_slice();
     if records.is_empty() {
-        let explained = output_of(rt, alloc, keys, options, start, recorded, lines, files)?;
+        let explained = output_of(rt, alloc, keys, recorded, options, start, lines, files)?;
         return Ok(explained);
     }
     let form = form_of(options);
     let layout = Layout { form, files };
-    let output = records_output(alloc, layout, recorded.taps.as_slice(), lines, records)?;
+    let output = records_output(recorded.taps.as_slice(), alloc, layout, lines, records)?;
     Ok(all_of(alloc, output))
 }
 
@@ -76,9 +76,9 @@ fn told_of<'o, H: Threads + Wait + Clock + Sync>(
     rt: &H,
     alloc: Global,
     keys: RandomState,
+    recorded: &Recorded,
     options: &'o ExplainOptions,
     start: Option<Instant>,
-    recorded: &Recorded,
     part: Option<&PartLines>,
 ) -> Result<Told<'o>, ExplainFault>
     requires names { AreNamedOnce recorded.now.taps }
@@ -96,14 +96,14 @@ fn told_of<'o, H: Threads + Wait + Clock + Sync>(
         let lines = &recorded.lines;
         let files = InputFiles::of(alloc, options.files.as_slice(), &recorded.counts)?;
         let files = files.as_slice();
-        return told_with(rt, alloc, keys, options, start, recorded, lines, files);
+        return told_with(rt, alloc, keys, recorded, options, start, lines, files);
     };
     if !part.is_of(recorded.size) {
         return Err(ExplainFault::OtherPart);
     }
     let lines = recorded.lines.named(alloc, &part.runs)?;
     let files = part.files.as_slice();
-    told_with(rt, alloc, keys, options, start, recorded, &lines, files)
+    told_with(rt, alloc, keys, recorded, options, start, &lines, files)
 }
 
 /// What is told of a line that is refused.
@@ -142,7 +142,7 @@ fn told<'o, H: Threads + Wait + Clock + Sync, R: Read>(
     match read_files(rt, options.workers as usize, alloc, keys, files) {
         Ok(recorded) => {
             let recorded = ManuallyDrop::new(recorded);
-            told_of(rt, alloc, keys, options, start, &recorded, part)
+            told_of(rt, alloc, keys, &recorded, options, start, part)
         }
         Err(ReadingFault::Refused(refusal)) => told_refused(alloc, options, &refusal),
         Err(ReadingFault::Unread { file }) => Err(Unexplained::Unread { file }.into()),

@@ -2,7 +2,7 @@
 ghost use Rattle.std.specs.Prelude.{◌≡◌, ◌⊎◌, false, ℕ, IfErr, IfOk, Some, option_map, string_bytes};
 ghost use Rattle.serde_json.specs.View.{view};
 ghost use Rattle.serde_json.specs.Written.{has_float};
-ghost use Rattle.aud_explain_app.specs.Records.{first_lacking, named_text, place_named, records_output, records_text, shown_in};
+ghost use Rattle.aud_explain_app.specs.Records.{first_lacking, named_text, place_named, records_output, shown_in};
 ghost use Rattle.aud_explain_app.specs.declared.fault.ExplainFault.TheVariants.{NoRecord, Unexplained};
 ghost use Rattle.aud_explain_app.specs.declared.fault.Unexplained.TheVariants.{Memory};
 
@@ -44,9 +44,9 @@ fn shown_in(
 
 /// The record that is named, with its line; none where there is no such record.
 fn named_text(
+    taps: &[Tap],
     alloc: Global,
     layout: Layout<'_>,
-    taps: &[Tap],
     lines: &RecordLines,
     named: &NamedRecord,
 ) -> Result<Option<String>, AllocError>
@@ -66,34 +66,11 @@ fn named_text(
     }
 }
 
-/// The records that are named, one after the other; or the number of the first that isn't there.
-fn records_text(
-    alloc: Global,
-    layout: Layout<'_>,
-    taps: &[Tap],
-    lines: &RecordLines,
-    records: &[NamedRecord],
-) -> Result<Result<String, usize>, AllocError>
-    ensures text { IfOk result (λ shown. IfOk shown (λ text. records_text layout.entry.form
-        layout.entry.files.now taps.now lines.now records.now ≡ Some (string_bytes text))) }
-    ensures lacking { IfOk result (λ shown. IfErr shown
-        (λ number. first_lacking taps.now records.now ≡ Some number)) }
-{
-    let mut out = String::new(alloc);
-    for (number, named) in records.iter().enumerate() {
-        match named_text(alloc, layout, taps, lines, named)? {
-            Some(text) => out.push_str(text.as_str())?,
-            None => return Ok(Err(number)),
-        }
-    }
-    Ok(Ok(out))
-}
-
 /// The records that are named, each with its line, in the order of the words. The first that isn't there is the fault.
 pub(crate) fn records_output(
+    taps: &[Tap],
     alloc: Global,
     layout: Layout<'_>,
-    taps: &[Tap],
     lines: &RecordLines,
     records: &[NamedRecord],
 ) -> Result<Output, ExplainFault>
@@ -103,11 +80,15 @@ pub(crate) fn records_output(
         ⊎ ((number : ℕ) × (e ≡ NoRecord number)
         × (first_lacking taps.now records.now ≡ Some number))) }
 {
-    match records_text(alloc, layout, taps, lines, records)? {
-        Ok(text) => Ok(Output {
-            status: Status::AllYes,
-            text,
-        }),
-        Err(number) => Err(ExplainFault::NoRecord { number }),
+    let mut out = String::new(alloc);
+    for (number, named) in records.iter().enumerate() {
+        match named_text(taps, alloc, layout, lines, named)? {
+            Some(text) => out.push_str(text.as_str())?,
+            None => return Err(ExplainFault::NoRecord { number }),
+        }
     }
+    Ok(Output {
+        status: Status::AllYes,
+        text: out,
+    })
 }

@@ -1,10 +1,12 @@
 //! The recoveries of a session that were refused.
 ghost use Rattle.std.specs.Prelude.{◌≡◌, IfOk};
-ghost use Rattle.std.specs.List.{AllZip};
+ghost use Rattle.std.specs.List.{AllZip, filter};
 ghost use Rattle.aud_rows.specs.ClientPlaces.{AreOf};
+ghost use Rattle.aud_session_facts.specs.Recoveries.{is_refused};
 ghost use Rattle.aud_findings.specs.Prepared.{IsPreparedOf};
 ghost use Rattle.aud_explain_app.specs.Refused.{IsRefusedTold};
 
+use crate::asked::refused_among;
 use aud_causes::{CauseFound, causes_of_refusal, refuted_of_refusal};
 use aud_findings::{Prepared, RefusedShown, refused_shown};
 use aud_rows::{ClientPlaces, Sheet};
@@ -21,19 +23,21 @@ pub struct RefusedTold<'r> {
     pub refuted: Vec<&'static str>,
 }
 
-/// What is told of each of these recoveries, in their order.
+/// What is told of each of these recoveries that was refused, in their order.
 pub(crate) fn all_refused<'r>(
     alloc: Global,
     sheet: &Sheet<'r, '_>,
     prepared: &Prepared,
-    refused: &[Recovery],
+    asked: &[Recovery],
 ) -> Result<Vec<RefusedTold<'r>>, AllocError>
     requires { IsPreparedOf sheet.now.recording.now prepared.now }
     ensures { IfOk result (λ told. AllZip
-        (IsRefusedTold sheet.now.recording.now sheet.now.lines.now) refused.now told.items) }
+        (IsRefusedTold sheet.now.recording.now sheet.now.lines.now)
+        (filter is_refused asked.now) told.items) }
 {
+    let refused = refused_among(alloc, asked)?;
     let mut told = Vec::new(alloc);
-    for recovery in refused {
+    for recovery in &refused {
         told.push(refused_told(alloc, sheet, prepared, recovery)?)?;
     }
     Ok(told)

@@ -1,6 +1,6 @@
 //! How a run of `explain` ends.
 ghost use Rattle.std.specs.Prelude.{◌≡◌};
-ghost use Rattle.aud_explain_app.specs.Status.{fails, fails_refused, some_fails, status_by};
+ghost use Rattle.aud_explain_app.specs.Status.{fails, some_fails, status_by};
 
 use aud_cli::FailOn;
 use aud_session_facts::{Recovery, refused};
@@ -19,17 +19,10 @@ pub(crate) fn status_by(
     if fail_on.nothing && says_nothing {
         return status_of(false);
     }
-    let is_bad = fails_refused(fail_on, recoveries) || some_fails(fail_on, verdicts);
-    status_of(!is_bad)
-}
-
-fn fails_refused(fail_on: FailOn, recoveries: &[Recovery]) -> bool
-    ensures { result ≡ fails_refused fail_on recoveries.now }
-{
-    if !fail_on.refused {
-        return false;
+    if fail_on.refused && refused(recoveries) > 0 {
+        return status_of(false);
     }
-    refused(recoveries) > 0
+    status_of(!some_fails(fail_on, verdicts))
 }
 
 fn some_fails(fail_on: FailOn, verdicts: &[SessionVerdict]) -> bool

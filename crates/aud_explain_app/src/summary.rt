@@ -5,7 +5,6 @@ pub mod classes;
 pub mod entries;
 pub mod faults;
 pub mod json;
-pub mod recoveries;
 pub mod tails;
 pub mod text;
 
@@ -20,14 +19,13 @@ ghost use Rattle.aud_explain_app.specs.Summary.ByFault.{faults_of, sum_of_faults
 ghost use Rattle.aud_explain_app.specs.Summary.Meaning.{says_nothing};
 ghost use Rattle.aud_explain_app.specs.Summary.Tails.{has_tail, tail_of};
 
-use crate::summary::answers::{count_no, count_unobserved, count_yes};
+use crate::summary::answers::{count_unobserved, count_yes};
 use crate::summary::classes::{Classes, classes_in};
 use crate::summary::entries::{Entries, entries_in};
 use crate::summary::faults::{Faults, faults_in};
-use crate::summary::recoveries::{Recoveries, recoveries_in};
 use crate::summary::tails::{Tails, tails_in};
 use aud_client::Recording;
-use aud_session_facts::Recovery;
+use aud_session_facts::{Recovery, granted, refused};
 use aud_verdict::SessionVerdict;
 
 /// What was read, as the caller counted it.
@@ -37,6 +35,14 @@ pub struct Input {
     pub bytes: u64,
     /// How long it took, in whole seconds.
     pub seconds: u64,
+}
+
+/// How many recoveries clients asked for: those that were granted, and those that were refused or not answered.
+#[derive(Clone, Copy, Debug, PartialEq, Eq, Drop)]
+pub struct Recoveries {
+    pub asked: usize,
+    pub granted: usize,
+    pub refused: usize,
 }
 
 /// The figures of a recording.
@@ -90,15 +96,22 @@ pub fn summary_of(
     ensures all_recoveries { result.recoveries.granted + result.recoveries.refused
         ≡ result.recoveries.asked }
 {
+    let sessions = verdicts.len();
+    let yes = count_yes(verdicts);
+    let no = sessions - yes;
     Summary {
-        sessions: verdicts.len(),
-        yes: count_yes(verdicts),
-        no: count_no(verdicts),
+        sessions,
+        yes,
+        no,
         unobserved: count_unobserved(recording, verdicts),
         classes: classes_in(verdicts),
         faults: faults_in(verdicts),
         tails: tails_in(verdicts),
-        recoveries: recoveries_in(recoveries),
+        recoveries: Recoveries {
+            asked: recoveries.len(),
+            granted: granted(recoveries),
+            refused: refused(recoveries),
+        },
         entries: entries_in(recording.logs().stream()),
         input,
     }

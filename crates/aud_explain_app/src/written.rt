@@ -1,7 +1,5 @@
 //! The explanation of a session, written.
-ghost use Rattle.std.specs.Prelude.{◌≡◌, ◌++◌, IfOk, codes, map, string_bytes};
-ghost use Rattle.aud_explanation.specs.Json.{explanation_json};
-ghost use Rattle.aud_explanation.specs.Text.{explanation_text};
+ghost use Rattle.std.specs.Prelude.{◌≡◌, IfOk, map, string_bytes};
 ghost use Rattle.aud_explain_app.specs.Written.{IsWritten, form_text};
 
 use crate::explained::Explained;
@@ -29,35 +27,6 @@ pub struct Layout<'f> {
     pub files: &'f [InputFile],
 }
 
-/// The explanation for a reader.
-fn in_lines(
-    alloc: Global,
-    files: &[InputFile],
-    explanation: &Explanation<'_, '_, '_>,
-) -> Result<String, AllocError>
-    ensures { IfOk result (λ text. string_bytes text
-        ≡ explanation_text files.now explanation.now ++ codes "\n") }
-{
-    let mut text = String::new(alloc);
-    push_text(alloc, &mut text, files, explanation)?;
-    text.push('\n')?;
-    Ok(text)
-}
-
-/// The explanation for a program.
-fn in_json(
-    alloc: Global,
-    files: &[InputFile],
-    explanation: &Explanation<'_, '_, '_>,
-) -> Result<String, AllocError>
-    ensures { IfOk result (λ text. string_bytes text
-        ≡ explanation_json files.now explanation.now ++ codes "\n") }
-{
-    let mut text = explanation_json(alloc, files, explanation)?;
-    text.push('\n')?;
-    Ok(text)
-}
-
 /// The explanation, in its form.
 fn text_of(
     alloc: Global,
@@ -68,8 +37,17 @@ fn text_of(
         ≡ form_text layout.entry.form layout.entry.files.now explanation.now) }
 {
     match layout.form {
-        Form::Text => in_lines(alloc, layout.files, explanation),
-        Form::Json => in_json(alloc, layout.files, explanation),
+        Form::Text => {
+            let mut text = String::new(alloc);
+            push_text(alloc, &mut text, layout.files, explanation)?;
+            text.push('\n')?;
+            Ok(text)
+        }
+        Form::Json => {
+            let mut text = explanation_json(alloc, layout.files, explanation)?;
+            text.push('\n')?;
+            Ok(text)
+        }
     }
 }
 

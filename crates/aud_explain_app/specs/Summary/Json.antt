@@ -2,12 +2,13 @@
 use Rattle.std.specs.Prelude.{ℕ, List, codes, fold}
 use Rattle.serde_json.specs.Data.{Data, Members, number, object, unsigned, no_members, member, put}
 use Rattle.serde_json.specs.Written.{compact_text}
+use Rattle.std.specs.Borrow.{Bor}
 use Rattle.aud_node.specs.Stream.{Text}
 use Rattle.aud_explain_app.specs.declared.summary.causes.CausesTold.{CausesTold}
 use Rattle.aud_explain_app.specs.declared.summary.classes.Classes.{Classes}
 use Rattle.aud_explain_app.specs.declared.summary.entries.Entries.{Entries}
 use Rattle.aud_explain_app.specs.declared.summary.faults.Faults.{Faults}
-use Rattle.aud_explain_app.specs.declared.summary.recoveries.Recoveries.{Recoveries}
+use Rattle.aud_explain_app.specs.declared.summary.Recoveries.{Recoveries}
 use Rattle.aud_explain_app.specs.declared.summary.Summary.{Summary}
 use Rattle.aud_explain_app.specs.declared.summary.tails.Tails.{Tails}
 use Rattle.aud_explain_app.specs.Summary.Causes.{cause_names, count_unknown, count_with}
@@ -15,6 +16,10 @@ use Rattle.aud_explain_app.specs.Summary.Causes.{cause_names, count_unknown, cou
 -- a member that is a whole number, in front of others
 abbrev pub figure : List ℕ → ℕ → Members → Members
 figure name n others = member name (number (unsigned n)) others
+
+-- figures whose names are borrowed, put among others
+abbrev pub with_figures : List (Bor Text × ℕ) → Members → Members
+with_figures figures others = fold (λ ms (f : Bor Text × ℕ). put f.0.now (number (unsigned f.1)) ms) others figures
 
 -- a cause among others, with how many sessions have it
 abbrev pub with_cause : List CausesTold → Members → Text → Members
@@ -30,31 +35,23 @@ classes_data c = object (figure (codes "delivery") c.delivery (figure (codes "pa
 abbrev pub entries_data : Entries → Data
 entries_data e = object (figure (codes "all") e.all (figure (codes "recoverable") e.recoverable no_members))
 
--- the faults up to `LOST`, in front of others
-abbrev pub first_faults : Faults → Members → Members
-first_faults f others =
-    figure (codes "CHAIN") f.chain
+-- all faults, also those that no session has
+abbrev pub faults_data : Faults → Data
+faults_data f =
+    object (figure (codes "CHAIN") f.chain
     (figure (codes "CLIENT") f.client
     (figure (codes "CONTENT") f.content
     (figure (codes "DOUBLED") f.doubled
     (figure (codes "EXTRA") f.extra
     (figure (codes "FRAME") f.frame
-    (figure (codes "LOST") f.lost others))))))
-
--- the faults after it
-abbrev pub other_faults : Faults → Members
-other_faults f =
-    figure (codes "NAMES") f.names
+    (figure (codes "LOST") f.lost
+    (figure (codes "NAMES") f.names
     (figure (codes "NOLOG") f.no_log
     (figure (codes "ORDER") f.order
     (figure (codes "ORPHAN") f.orphan
     (figure (codes "SWAPPED") f.swapped
     (figure (codes "TAIL") f.tail
-    (figure (codes "WINDOW") f.window no_members))))))
-
--- all faults, also those that no session has
-abbrev pub faults_data : Faults → Data
-faults_data f = object (first_faults f (other_faults f))
+    (figure (codes "WINDOW") f.window no_members))))))))))))))
 
 abbrev pub recoveries_data : Recoveries → Data
 recoveries_data r = object (figure (codes "asked") r.asked (figure (codes "granted") r.granted (figure (codes "refused") r.refused no_members)))
@@ -62,30 +59,23 @@ recoveries_data r = object (figure (codes "asked") r.asked (figure (codes "grant
 abbrev pub tails_data : Tails → Data
 tails_data t = object (figure (codes "events") t.events (figure (codes "sessions") t.sessions no_members))
 
--- the figures up to `lines`, in front of others
-abbrev pub first_figures : Summary → List CausesTold → Members → Members
-first_figures s told others =
-    figure (codes "bytes") s.input.bytes
+-- all figures
+abbrev pub figures_data : Summary → List CausesTold → Data
+figures_data s told =
+    object (figure (codes "bytes") s.input.bytes
     (member (codes "causes") (causes_data told)
     (member (codes "class") (classes_data s.classes)
     (member (codes "entries") (entries_data s.entries)
     (member (codes "fault") (faults_data s.faults)
-    (figure (codes "lines") s.input.lines others)))))
-
--- the figures after it
-abbrev pub other_figures : Summary → List CausesTold → Members
-other_figures s told =
-    figure (codes "no") s.no
+    (figure (codes "lines") s.input.lines
+    (figure (codes "no") s.no
     (figure (codes "no_known_cause") (count_unknown told)
     (member (codes "recoveries") (recoveries_data s.recoveries)
     (figure (codes "seconds") s.input.seconds
     (figure (codes "sessions") s.sessions
     (member (codes "tail") (tails_data s.tails)
     (figure (codes "unobserved") s.unobserved
-    (figure (codes "yes") s.yes no_members)))))))
-
-abbrev pub figures_data : Summary → List CausesTold → Data
-figures_data s told = object (first_figures s told (other_figures s told))
+    (figure (codes "yes") s.yes no_members))))))))))))))
 
 -- `{"summary":{..},"v":1}`
 abbrev pub summary_data : Summary → List CausesTold → Data

@@ -1,14 +1,11 @@
 -- The text of a summary: a line for each group of figures.
-use Rattle.std.specs.Prelude.{ℕ, zero, suc, List, [], ◌++◌, codes, decimal, flat_map}
+use Rattle.std.specs.Prelude.{ℕ, zero, suc, List, [], ◌∷◌, ◌++◌, codes, decimal, flat_map, map}
+use Rattle.std.specs.Borrow.{Bor}
 use Rattle.aud_node.specs.Stream.{Text}
 use Rattle.aud_explain_app.specs.declared.summary.causes.CausesTold.{CausesTold}
 use Rattle.aud_explain_app.specs.declared.summary.classes.Classes.{Classes}
-use Rattle.aud_explain_app.specs.declared.summary.entries.Entries.{Entries}
 use Rattle.aud_explain_app.specs.declared.summary.faults.Faults.{Faults}
-use Rattle.aud_explain_app.specs.declared.summary.recoveries.Recoveries.{Recoveries}
-use Rattle.aud_explain_app.specs.declared.summary.Input.{Input}
 use Rattle.aud_explain_app.specs.declared.summary.Summary.{Summary}
-use Rattle.aud_explain_app.specs.declared.summary.tails.Tails.{Tails}
 use Rattle.aud_explain_app.specs.Summary.Causes.{cause_names, count_unknown, count_with}
 
 -- how the sessions were answered
@@ -20,32 +17,37 @@ abbrev pub fault_item : List ℕ → ℕ → List ℕ
 fault_item word zero = []
 fault_item word (suc more) = codes " " ++ word ++ codes " " ++ decimal (suc more)
 
+-- each of these
+abbrev pub fault_items : List (Text × ℕ) → List ℕ
+fault_items faults = flat_map (λ (f : Text × ℕ). fault_item f.0 f.1) faults
+
 -- a class, its count, and the faults of it; nothing where the count is 0
-abbrev pub class_line : List ℕ → ℕ → List ℕ → List ℕ
-class_line name zero items = []
-class_line name (suc more) items = codes "  " ++ name ++ codes " " ++ decimal (suc more) ++ codes ":" ++ items ++ codes "\n"
+abbrev pub class_line : List ℕ → ℕ → List (Text × ℕ) → List ℕ
+class_line name zero faults = []
+class_line name (suc more) faults = codes "  " ++ name ++ codes " " ++ decimal (suc more) ++ codes ":" ++ fault_items faults ++ codes "\n"
+
+-- faults whose words are borrowed
+abbrev pub faults_seen : List (Bor Text × ℕ) → List (Text × ℕ)
+faults_seen faults = map (λ (f : Bor Text × ℕ). (f.0.now, f.1)) faults
 
 -- the faults of each class, in the order in which they are looked for
-abbrev pub recording_items : Faults → List ℕ
-recording_items f =
-    fault_item (codes "NOLOG") f.no_log ++ fault_item (codes "CHAIN") f.chain ++ fault_item (codes "ORDER") f.order
-    ++ fault_item (codes "CLIENT") f.client ++ fault_item (codes "NAMES") f.names
+abbrev pub recording_faults : Faults → List (Text × ℕ)
+recording_faults f = (codes "NOLOG", f.no_log) ∷ (codes "CHAIN", f.chain) ∷ (codes "ORDER", f.order) ∷ (codes "CLIENT", f.client) ∷ (codes "NAMES", f.names) ∷ []
 
-abbrev pub packets_items : Faults → List ℕ
-packets_items f = fault_item (codes "FRAME") f.frame ++ fault_item (codes "ORPHAN") f.orphan
+abbrev pub packets_faults : Faults → List (Text × ℕ)
+packets_faults f = (codes "FRAME", f.frame) ∷ (codes "ORPHAN", f.orphan) ∷ []
 
-abbrev pub delivery_items : Faults → List ℕ
-delivery_items f =
-    fault_item (codes "CONTENT") f.content ++ fault_item (codes "EXTRA") f.extra ++ fault_item (codes "DOUBLED") f.doubled
-    ++ fault_item (codes "SWAPPED") f.swapped ++ fault_item (codes "LOST") f.lost ++ fault_item (codes "WINDOW") f.window
-    ++ fault_item (codes "TAIL") f.tail
+abbrev pub delivery_faults : Faults → List (Text × ℕ)
+delivery_faults f =
+    (codes "CONTENT", f.content) ∷ (codes "EXTRA", f.extra) ∷ (codes "DOUBLED", f.doubled) ∷ (codes "SWAPPED", f.swapped)
+    ∷ (codes "LOST", f.lost) ∷ (codes "WINDOW", f.window) ∷ (codes "TAIL", f.tail) ∷ []
 
 -- the classes that have a no
 abbrev pub classes_lines : Classes → Faults → List ℕ
 classes_lines c f =
-    class_line (codes "recording") c.recording (recording_items f)
-    ++ class_line (codes "packets") c.packets (packets_items f)
-    ++ class_line (codes "delivery") c.delivery (delivery_items f)
+    class_line (codes "recording") c.recording (recording_faults f)
+    ++ class_line (codes "packets") c.packets (packets_faults f)
+    ++ class_line (codes "delivery") c.delivery (delivery_faults f)
 
 -- how many sessions have such a cause; nothing where none has
 abbrev pub count_line : List ℕ → List ℕ → ℕ → List ℕ
@@ -60,20 +62,24 @@ cause_line told id = count_line (codes "cause") id (count_with told id)
 abbrev pub causes_lines : List CausesTold → List ℕ
 causes_lines told = flat_map (cause_line told) cause_names ++ count_line (codes "no known") (codes "cause") (count_unknown told)
 
-abbrev pub unobserved_line : ℕ → List ℕ
-unobserved_line count = codes "sessions that no client named: " ++ decimal count ++ codes "\n"
+-- numbers, each behind its words
+abbrev pub numbers_text : List (Text × ℕ) → List ℕ
+numbers_text numbers = flat_map (λ (n : Text × ℕ). n.0 ++ decimal n.1) numbers
 
-abbrev pub tails_line : Tails → List ℕ
-tails_line t = codes "sessions with a tail: " ++ decimal t.sessions ++ codes ", events in tails: " ++ decimal t.events ++ codes "\n"
+-- the same where the words are borrowed
+abbrev pub numbers_seen : List (Bor Text × ℕ) → List ℕ
+numbers_seen numbers = numbers_text (map (λ (n : Bor Text × ℕ). (n.0.now, n.1)) numbers)
 
-abbrev pub recoveries_line : Recoveries → List ℕ
-recoveries_line r = codes "recoveries asked for: " ++ decimal r.asked ++ codes ", granted: " ++ decimal r.granted ++ codes ", refused: " ++ decimal r.refused ++ codes "\n"
-
-abbrev pub entries_line : Entries → List ℕ
-entries_line e = codes "entries of the stream: " ++ decimal e.all ++ codes ", recoverable: " ++ decimal e.recoverable ++ codes "\n"
-
-abbrev pub input_line : Input → List ℕ
-input_line i = codes "lines: " ++ decimal i.lines ++ codes ", bytes: " ++ decimal i.bytes ++ codes ", seconds: " ++ decimal i.seconds ++ codes "\n"
+-- the other counts: sessions that no client named, tails, recoveries, entries, and what was read
+abbrev pub counts_lines : Summary → List ℕ
+counts_lines s =
+    numbers_text
+    ((codes "sessions that no client named: ", s.unobserved)
+    ∷ (codes "\nsessions with a tail: ", s.tails.sessions) ∷ (codes ", events in tails: ", s.tails.events)
+    ∷ (codes "\nrecoveries asked for: ", s.recoveries.asked) ∷ (codes ", granted: ", s.recoveries.granted) ∷ (codes ", refused: ", s.recoveries.refused)
+    ∷ (codes "\nentries of the stream: ", s.entries.all) ∷ (codes ", recoverable: ", s.entries.recoverable)
+    ∷ (codes "\nlines: ", s.input.lines) ∷ (codes ", bytes: ", s.input.bytes) ∷ (codes ", seconds: ", s.input.seconds) ∷ [])
+    ++ codes "\n"
 
 -- where no answer means anything, why, by how many sessions and how many recoverable entries there are: no session was
 -- recorded, or a client that received nothing received all that was due to it
@@ -85,6 +91,4 @@ meaning_line (suc more) (suc others) = []
 -- all of it, with what was told of causes
 abbrev pub summary_text : Summary → List CausesTold → List ℕ
 summary_text s told =
-    answers_line s ++ classes_lines s.classes s.faults ++ causes_lines told ++ unobserved_line s.unobserved ++ tails_line s.tails
-    ++ recoveries_line s.recoveries ++ entries_line s.entries ++ input_line s.input
-    ++ meaning_line s.sessions s.entries.recoverable
+    answers_line s ++ classes_lines s.classes s.faults ++ causes_lines told ++ counts_lines s ++ meaning_line s.sessions s.entries.recoverable

@@ -1,7 +1,7 @@
-//! How many sessions are answered yes, how many no, and how many no client named.
+//! How many sessions are answered yes, and how many no client named.
 ghost use Rattle.std.specs.Prelude.{◌≡◌, count_by};
 ghost use Rattle.aud_verdict.specs.YesOf.{is_yes};
-ghost use Rattle.aud_explain_app.specs.Summary.Answers.{is_no, is_unnamed, is_unobserved};
+ghost use Rattle.aud_explain_app.specs.Summary.Answers.{is_unnamed, is_unobserved};
 
 use aud_client::Recording;
 use aud_verdict::SessionVerdict;
@@ -11,13 +11,6 @@ pub(crate) fn count_yes(verdicts: &[SessionVerdict]) -> usize
     ensures { result ≡ count_by is_yes verdicts.now }
 {
     verdicts.iter().filter(|verdict| verdict.is_yes()).count()
-}
-
-/// How many are no.
-pub(crate) fn count_no(verdicts: &[SessionVerdict]) -> usize
-    ensures { result ≡ count_by is_no verdicts.now }
-{
-    verdicts.iter().filter(|verdict| !verdict.is_yes()).count()
 }
 
 /// How many are on a session that no client named.

@@ -1,6 +1,6 @@
 //! How many sessions are answered no with a fault of each class.
 ghost use Rattle.std.specs.Prelude.{◌≡◌, count_by};
-ghost use Rattle.aud_explain_app.specs.Summary.ByClass.{classes_of, is_no_in, same_class};
+ghost use Rattle.aud_explain_app.specs.Summary.ByClass.{classes_of, is_no_in};
 
 use aud_cert::{Class, class_of};
 use aud_verdict::{SessionVerdict, Verdict};
@@ -39,17 +39,11 @@ fn is_no_in(verdict: &SessionVerdict, class: Class) -> bool
 {
     match &verdict.verdict {
         Verdict::Yes { .. } => false,
-        Verdict::No(fault) => same_class(class_of(fault), class),
-    }
-}
-
-fn same_class(class: Class, other: Class) -> bool
-    ensures { result ≡ same_class class other }
-{
-    match (class, other) {
-        (Class::Delivery, Class::Delivery) => true,
-        (Class::Packets, Class::Packets) => true,
-        (Class::Recording, Class::Recording) => true,
-        _ => false,
+        Verdict::No(fault) => match (class_of(fault), class) {
+            (Class::Delivery, Class::Delivery) => true,
+            (Class::Packets, Class::Packets) => true,
+            (Class::Recording, Class::Recording) => true,
+            _ => false,
+        },
     }
 }

@@ -16,20 +16,12 @@ pub(crate) fn entries_in(stream: &Stream<'_>) -> Entries
     ensures all { result.all ≡ length stream.now }
     ensures recoverable { result.recoverable ≡ count_by is_recoverable stream.now }
 {
-    Entries {
-        all: stream.entries().len(),
-        recoverable: count_recoverable(stream),
-    }
-}
-
-fn count_recoverable(stream: &Stream<'_>) -> usize
-    ensures { result ≡ count_by is_recoverable stream.now }
-{
-    let mut count = 0;
-    for before in 0..stream.entries().len() {
+    let all = stream.entries().len();
+    let mut recoverable = 0;
+    for before in 0..all {
         if stream.recoverable(before as u64 + 1) {
-            count += 1;
+            recoverable += 1;
         }
     }
-    count
+    Entries { all, recoverable }
 }

@@ -1,17 +1,12 @@
 //! A summary as JSON.
-ghost use Rattle.std.specs.Prelude.{◌≡◌, IfOk, OnOk, fold, map, string_bytes};
-ghost use Rattle.serde_json.specs.Data.{no_members, number, put, unsigned};
+ghost use Rattle.std.specs.Prelude.{◌≡◌, IfOk, OnOk, codes, string_bytes};
+ghost use Rattle.serde_json.specs.Data.{no_members, object, put};
 ghost use Rattle.serde_json.specs.View.{members_view, view};
-ghost use Rattle.aud_explain_app.specs.Summary.Causes.{name_of};
-ghost use Rattle.aud_explain_app.specs.Summary.Json.{causes_data, classes_data, entries_data, faults_data, figures_data, first_faults, first_figures, recoveries_data, summary_data, summary_json, tails_data, with_cause};
+ghost use Rattle.aud_explain_app.specs.Summary.Json.{causes_data, faults_data, figures_data, summary_data, summary_json, with_figures};
 
 use crate::summary::Summary;
 use crate::summary::causes::{CausesTold, cause_names, count_unknown, count_with};
-use crate::summary::classes::Classes;
-use crate::summary::entries::Entries;
 use crate::summary::faults::Faults;
-use crate::summary::recoveries::Recoveries;
-use crate::summary::tails::Tails;
 use serde_json::{Map, Value, json, put};
 use std::alloc::{AllocError, Global};
 
@@ -38,152 +33,121 @@ fn summary_value(alloc: Global, summary: &Summary, told: &[CausesTold]) -> Resul
 fn figures_value(alloc: Global, summary: &Summary, told: &[CausesTold]) -> Result<Value, AllocError>
     ensures { IfOk result (λ value. view value ≡ figures_data summary.now told.now) }
 {
-    let mut map = first_figures(alloc, summary, told)?;
-    put_figure(&mut map, alloc, "no", summary.no)?;
-    put(
-        &mut map,
-        alloc,
-        "no_known_cause",
-        Value::from(count_unknown(told)),
-    )?;
-    put(
-        &mut map,
-        alloc,
-        "recoveries",
-        recoveries_value(alloc, &summary.recoveries)?,
-    )?;
-    put(
-        &mut map,
-        alloc,
-        "seconds",
-        Value::from(summary.input.seconds),
-    )?;
-    put_figure(&mut map, alloc, "sessions", summary.sessions)?;
-    put(&mut map, alloc, "tail", tails_value(alloc, &summary.tails)?)?;
-    put_figure(&mut map, alloc, "unobserved", summary.unobserved)?;
-    put_figure(&mut map, alloc, "yes", summary.yes)?;
+    let numbers = [
+        ("bytes", summary.input.bytes),
+        ("lines", summary.input.lines),
+        ("no", summary.no as u64),
+        ("no_known_cause", count_unknown(told)),
+        ("seconds", summary.input.seconds),
+        ("sessions", summary.sessions as u64),
+        ("unobserved", summary.unobserved as u64),
+        ("yes", summary.yes as u64),
+    ];
+    let classes = [
+        ("delivery", summary.classes.delivery as u64),
+        ("packets", summary.classes.packets as u64),
+        ("recording", summary.classes.recording as u64),
+    ];
+    let entries = [
+        ("all", summary.entries.all as u64),
+        ("recoverable", summary.entries.recoverable as u64),
+    ];
+    let recoveries = [
+        ("asked", summary.recoveries.asked as u64),
+        ("granted", summary.recoveries.granted as u64),
+        ("refused", summary.recoveries.refused as u64),
+    ];
+    let tails = [
+        ("events", summary.tails.events),
+        ("sessions", summary.tails.sessions as u64),
+    ];
+    let mut map = Map::new(alloc);
+    put_figures(&mut map, alloc, &numbers)?;
+    put_causes(&mut map, alloc, told)?;
+    put_object(&mut map, alloc, "class", &classes)?;
+    put_object(&mut map, alloc, "entries", &entries)?;
+    put_faults(&mut map, alloc, &summary.faults)?;
+    put_object(&mut map, alloc, "recoveries", &recoveries)?;
+    put_object(&mut map, alloc, "tail", &tails)?;
     Ok(Value::Object(map))
 }
 
-/// The members of the figures up to `lines`.
-fn first_figures(
+/// Puts an object with all causes into the object.
+fn put_causes(
+    map: &mut Map<String, Value>,
     alloc: Global,
-    summary: &Summary,
     told: &[CausesTold],
-) -> Result<Map<String, Value>, AllocError>
-    ensures { IfOk result (λ map. members_view map.entries
-        ≡ first_figures summary.now told.now no_members) }
+) -> Result<(), AllocError>
+    ensures { OnOk result (members_view map.new.entries
+        ≡ put (codes "causes") (causes_data told.now) (members_view map.old.entries)) }
 {
-    let mut map = Map::new(alloc);
-    put(&mut map, alloc, "bytes", Value::from(summary.input.bytes))?;
-    put(&mut map, alloc, "causes", causes_value(alloc, told)?)?;
-    put(
-        &mut map,
-        alloc,
-        "class",
-        classes_value(alloc, &summary.classes)?,
-    )?;
-    put(
-        &mut map,
-        alloc,
-        "entries",
-        entries_value(alloc, &summary.entries)?,
-    )?;
-    put(
-        &mut map,
-        alloc,
-        "fault",
-        faults_value(alloc, &summary.faults)?,
-    )?;
-    put(&mut map, alloc, "lines", Value::from(summary.input.lines))?;
-    Ok(map)
-}
-
-fn causes_value(alloc: Global, told: &[CausesTold]) -> Result<Value, AllocError>
-    ensures { IfOk result (λ value. view value ≡ causes_data told.now) }
-{
-    let map = with_causes(alloc, cause_names(), told)?;
-    Ok(Value::Object(map))
-}
-
-/// The members for these causes.
-fn with_causes(
-    alloc: Global,
-    names: &[&'static str],
-    told: &[CausesTold],
-) -> Result<Map<String, Value>, AllocError>
-    ensures { IfOk result (λ made. members_view made.entries
-        ≡ fold (with_cause told.now) no_members (map name_of names.now)) }
-{
-    let mut map = Map::new(alloc);
-    for name in names {
-        put(&mut map, alloc, name, Value::from(count_with(told, name)))?;
+    let mut causes = Map::new(alloc);
+    for name in cause_names() {
+        put(
+            &mut causes,
+            alloc,
+            name,
+            Value::from(count_with(told, name)),
+        )?;
     }
-    Ok(map)
+    put(map, alloc, "causes", Value::Object(causes))
 }
 
-fn classes_value(alloc: Global, classes: &Classes) -> Result<Value, AllocError>
-    ensures { IfOk result (λ value. view value ≡ classes_data classes.now) }
+/// Puts an object with all faults into the object.
+fn put_faults(
+    map: &mut Map<String, Value>,
+    alloc: Global,
+    faults: &Faults,
+) -> Result<(), AllocError>
+    ensures { OnOk result (members_view map.new.entries
+        ≡ put (codes "fault") (faults_data faults.now) (members_view map.old.entries)) }
 {
-    json!(in alloc; {"delivery": classes.delivery, "packets": classes.packets, "recording": classes.recording})
+    let counts = [
+        ("CHAIN", faults.chain as u64),
+        ("CLIENT", faults.client as u64),
+        ("CONTENT", faults.content as u64),
+        ("DOUBLED", faults.doubled as u64),
+        ("EXTRA", faults.extra as u64),
+        ("FRAME", faults.frame as u64),
+        ("LOST", faults.lost as u64),
+        ("NAMES", faults.names as u64),
+        ("NOLOG", faults.no_log as u64),
+        ("ORDER", faults.order as u64),
+        ("ORPHAN", faults.orphan as u64),
+        ("SWAPPED", faults.swapped as u64),
+        ("TAIL", faults.tail as u64),
+        ("WINDOW", faults.window as u64),
+    ];
+    put_object(map, alloc, "fault", &counts)
 }
 
-fn entries_value(alloc: Global, entries: &Entries) -> Result<Value, AllocError>
-    ensures { IfOk result (λ value. view value ≡ entries_data entries.now) }
-{
-    json!(in alloc; {"all": entries.all, "recoverable": entries.recoverable})
-}
-
-fn faults_value(alloc: Global, faults: &Faults) -> Result<Value, AllocError>
-    ensures { IfOk result (λ value. view value ≡ faults_data faults.now) }
-{
-    let mut map = first_faults(alloc, faults)?;
-    put_figure(&mut map, alloc, "NAMES", faults.names)?;
-    put_figure(&mut map, alloc, "NOLOG", faults.no_log)?;
-    put_figure(&mut map, alloc, "ORDER", faults.order)?;
-    put_figure(&mut map, alloc, "ORPHAN", faults.orphan)?;
-    put_figure(&mut map, alloc, "SWAPPED", faults.swapped)?;
-    put_figure(&mut map, alloc, "TAIL", faults.tail)?;
-    put_figure(&mut map, alloc, "WINDOW", faults.window)?;
-    Ok(Value::Object(map))
-}
-
-/// The members of the faults up to `LOST`.
-fn first_faults(alloc: Global, faults: &Faults) -> Result<Map<String, Value>, AllocError>
-    ensures { IfOk result (λ map. members_view map.entries ≡ first_faults faults.now no_members) }
-{
-    let mut map = Map::new(alloc);
-    put_figure(&mut map, alloc, "CHAIN", faults.chain)?;
-    put_figure(&mut map, alloc, "CLIENT", faults.client)?;
-    put_figure(&mut map, alloc, "CONTENT", faults.content)?;
-    put_figure(&mut map, alloc, "DOUBLED", faults.doubled)?;
-    put_figure(&mut map, alloc, "EXTRA", faults.extra)?;
-    put_figure(&mut map, alloc, "FRAME", faults.frame)?;
-    put_figure(&mut map, alloc, "LOST", faults.lost)?;
-    Ok(map)
-}
-
-/// Puts the number into the object, under the name.
-fn put_figure(
+/// Puts an object with these figures into the object, under this name.
+fn put_object(
     map: &mut Map<String, Value>,
     alloc: Global,
     name: &str,
-    figure: usize,
+    figures: &[(&str, u64)],
 ) -> Result<(), AllocError>
     ensures { OnOk result (members_view map.new.entries
-        ≡ put name.now (number (unsigned figure)) (members_view map.old.entries)) }
+        ≡ put name.now (object (with_figures figures.now no_members))
+        (members_view map.old.entries)) }
 {
-    put(map, alloc, name, Value::from(figure))
+    let mut object = Map::new(alloc);
+    put_figures(&mut object, alloc, figures)?;
+    put(map, alloc, name, Value::Object(object))
 }
 
-fn recoveries_value(alloc: Global, recoveries: &Recoveries) -> Result<Value, AllocError>
-    ensures { IfOk result (λ value. view value ≡ recoveries_data recoveries.now) }
+/// Puts these figures into the object, each under its name.
+fn put_figures(
+    map: &mut Map<String, Value>,
+    alloc: Global,
+    figures: &[(&str, u64)],
+) -> Result<(), AllocError>
+    ensures { OnOk result (members_view map.new.entries
+        ≡ with_figures figures.now (members_view map.old.entries)) }
 {
-    json!(in alloc; {"asked": recoveries.asked, "granted": recoveries.granted, "refused": recoveries.refused})
-}
-
-fn tails_value(alloc: Global, tails: &Tails) -> Result<Value, AllocError>
-    ensures { IfOk result (λ value. view value ≡ tails_data tails.now) }
-{
-    json!(in alloc; {"events": tails.events, "sessions": tails.sessions})
+    for (name, figure) in figures {
+        put(map, alloc, name, Value::from(*figure))?;
+    }
+    Ok(())
 }

@@ -19,29 +19,16 @@ pub(crate) fn tails_in(verdicts: &[SessionVerdict]) -> Tails
     ensures sessions { result.sessions ≡ count_by has_tail verdicts.now }
     ensures events { result.events ≡ min (sum_by tail_of verdicts.now) u64.MAX }
 {
-    Tails {
-        sessions: count_tails(verdicts),
-        events: count_events(verdicts),
-    }
-}
-
-fn count_tails(verdicts: &[SessionVerdict]) -> usize
-    ensures { result ≡ count_by has_tail verdicts.now }
-{
-    verdicts
-        .iter()
-        .filter(|verdict| tail_in(&verdict.verdict) > 0)
-        .count()
-}
-
-fn count_events(verdicts: &[SessionVerdict]) -> u64
-    ensures { result ≡ min (sum_by tail_of verdicts.now) u64.MAX }
-{
+    let mut sessions = 0;
     let mut events: u64 = 0;
     for verdict in verdicts {
-        events = events.saturating_add(tail_in(&verdict.verdict));
+        let tail = tail_in(&verdict.verdict);
+        if tail > 0 {
+            sessions += 1;
+        }
+        events = events.saturating_add(tail);
     }
-    events
+    Tails { sessions, events }
 }
 
 /// How many events are in the tail, whether or not it was asked for.

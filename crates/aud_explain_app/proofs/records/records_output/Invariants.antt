@@ -1,6 +1,6 @@
 use Rattle.std.proofs.Common.{◌≡◌, ◌++◌, drop, option_map, string_bytes}
 use Rattle.aud_explain_app.specs.Records.{first_lacking, lacking_from, records_text}
-use Rattle.aud_explain_app.proofs.records.records_text.Given as goal
+use Rattle.aud_explain_app.proofs.records.records_output.Given as goal
 
 -- the records so far, with those that are left, are all; and so many were there
 abbrev pub invariant-loop-number : goal.invariant-loop-number
