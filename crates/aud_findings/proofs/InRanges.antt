@@ -17,15 +17,6 @@ unfolding past_ranges
 none_past [] = refl
 none_past (p ∷ positions) = refl
 
--- of none there are none
-pub ranges_none : (most : ℕ) → ranges most [] ≡ []
-unfolding ranges
-ranges_none most = refl
-
-pub past_none : (most : ℕ) → past_ranges most [] ≡ []
-unfolding past_ranges
-past_none most = refl
-
 -- the first one
 pub ranges_one : (most p : ℕ) (positions : List ℕ)
     → ranges (suc most) (p ∷ positions) ≡ record { first = p; last = p + following p positions } ∷ ranges most (drop (following p positions) positions)
