@@ -3,13 +3,13 @@ use Rattle.std.proofs.Common.{◌≡◌, ℕ, List, [], ◌∷◌, ◌++◌, map
 use Rattle.std.proofs.lemmas.List.{append_assoc}
 use Rattle.std.proofs.lemmas.Iterator.{YieldsList}
 use Rattle.aud_eio.specs.declared.packet.EioFault.{EioFault}
-use Rattle.aud_base.specs.Steps.{◌>>=◌}
 use Rattle.aud_eio.specs.Packet.{Packet, engine_packet_of, engine_text}
-use Rattle.aud_eio.specs.Body.{packets_of_texts, body_of}
+use Rattle.aud_eio.specs.Body.{before, packets_of_texts, body_of}
 
 -- packets after those that stand already
 abbrev pub after : List Packet → Result (List Packet) EioFault → Result (List Packet) EioFault
-after done rest = rest >>= (λ packets. Ok (done ++ packets))
+after done (Ok packets) = Ok (done ++ packets)
+after done (Err fault) = Err fault
 
 -- after no packets stand the rest alone
 pub after-nil : (rest : Result (List Packet) EioFault) → rest ≡ after [] rest
@@ -18,7 +18,7 @@ after-nil (Err fault) = refl
 
 -- a packet before the rest is one more after those done
 after-one : (done : List Packet) (packet : Packet) (rest : Result (List Packet) EioFault)
-    → after done (rest >>= (λ packets. Ok (packet ∷ packets))) ≡ after (done ++ packet ∷ []) rest
+    → after done (before (Ok packet) rest) ≡ after (done ++ packet ∷ []) rest
 after-one done packet (Ok packets) = rw append_assoc refl
 after-one done packet (Err fault) = refl
 

@@ -1,8 +1,7 @@
 -- The packets of a body, and the body of packets (Engine.IO protocol 4, HTTP long-polling).
-use Rattle.std.specs.Prelude.{◌≢◌, ℕ, ◌==◌, List, [], ◌∷◌, map, All, Result, Ok}
+use Rattle.std.specs.Prelude.{◌≢◌, ℕ, ◌==◌, List, [], ◌∷◌, map, All, Result, Ok, Err}
 use Rattle.std.specs.List.{slice_split, join_with_byte}
 use Rattle.aud_eio.specs.declared.packet.EioFault.{EioFault}
-use Rattle.aud_base.specs.Steps.{◌>>=◌}
 use Rattle.aud_eio.specs.Packet.{Packet, Control, Message, Lent, Own, engine_packet_of, engine_text}
 
 -- the byte between two packets, 0x1e
@@ -13,11 +12,16 @@ separator = 30
 abbrev pub body_pieces : List ℕ → List (List ℕ)
 body_pieces body = slice_split (λ b. b == separator) body
 
+-- a text's packet before those of the texts after it; the first fault stands
+abbrev pub before : Result Packet EioFault → Result (List Packet) EioFault → Result (List Packet) EioFault
+before (Ok packet) (Ok packets) = Ok (packet ∷ packets)
+before (Ok packet) (Err fault) = Err fault
+before (Err fault) rest = Err fault
+
 -- the packets of texts, or the fault of the first text that is no packet
 abbrev pub packets_of_texts : List (List ℕ) → Result (List Packet) EioFault
 packets_of_texts [] = Ok []
-packets_of_texts (text ∷ texts) =
-    engine_packet_of text >>= (λ packet. packets_of_texts texts >>= (λ packets. Ok (packet ∷ packets)))
+packets_of_texts (text ∷ texts) = before (engine_packet_of text) (packets_of_texts texts)
 
 -- the packets of a body
 abbrev pub engine_packets_of : List ℕ → Result (List Packet) EioFault

@@ -1,5 +1,5 @@
 -- The packet of a text, and the text of a packet (Engine.IO protocol 4, "Packet encoding").
-use Rattle.std.specs.Prelude.{ℕ, ◌==◌, List, [], ◌∷◌, if◌then◌else◌, Option, Some, None, option_map, Result, Ok, Err}
+use Rattle.std.specs.Prelude.{ℕ, ◌==◌, List, [], ◌∷◌, if◌then◌else◌, Option, Some, None, option_map, ok_or, Result, Ok, Err}
 use Rattle.std.specs.Result.{result_ok}
 use Rattle.base64.specs.GeneralPurpose.{decode_of, encode_of}
 use Rattle.base64.specs.Engines.{standard}
@@ -9,7 +9,6 @@ use Rattle.aud_eio.specs.declared.packet.Eio.{Eio}
 use Rattle.aud_eio.specs.declared.packet.Eio.TheVariants as code
 use Rattle.aud_eio.specs.declared.packet.EioFault.{EioFault}
 use Rattle.aud_eio.specs.declared.packet.EioFault.TheVariants.{Empty, UnknownType, BadBase64}
-use Rattle.aud_base.specs.Steps.{need}
 
 -- a packet without where it lies in memory; bytes that came as bytes and bytes that came in base64 differ
 pub data Packet : Type 0 where
@@ -47,8 +46,8 @@ abbrev pub engine_packet_of : List ℕ → Result Packet EioFault
 engine_packet_of [] = Err Empty
 engine_packet_of (b ∷ payload) =
     if b == 52 then Ok (Message payload)
-    else (if b == 98 then need BadBase64 (option_map Own (base64_bytes payload))
-    else need UnknownType (option_map (λ kind. Control kind payload) (control_of b)))
+    else (if b == 98 then ok_or (option_map Own (base64_bytes payload)) BadBase64
+    else ok_or (option_map (λ kind. Control kind payload) (control_of b)) UnknownType)
 
 -- the text of a packet
 abbrev pub engine_text : Packet → List ℕ

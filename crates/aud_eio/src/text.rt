@@ -1,8 +1,7 @@
 //! The packet of a text, and the text of a packet.
-ghost use Rattle.std.specs.Prelude.{◌≡◌, ◌<◌, ◌++◌, ◌∷◌, OnSome, option_map, slice_index, string_bytes, length, drop, IfOk, IfErr, OnOk};
+ghost use Rattle.std.specs.Prelude.{◌≡◌, ◌<◌, ◌++◌, ◌∷◌, OnSome, option_map, ok_or, slice_index, string_bytes, length, drop, IfOk, IfErr, OnOk};
 ghost use Rattle.base64.specs.GeneralPurpose.{decode_of, encode_of};
 ghost use Rattle.base64.specs.Engines.{standard};
-ghost use Rattle.aud_base.specs.Steps.{need};
 ghost use Rattle.aud_eio.specs.Answer.{Gives};
 ghost use Rattle.aud_eio.specs.Packet.{Packet, engine_view, control_of, digit_of, base64_bytes, engine_packet_of, engine_text, delivered};
 ghost use Rattle.aud_eio.specs.Private.ReadBack.{ReadsBack};
@@ -83,8 +82,8 @@ fn push_base64(bytes: &[u8], text: &mut String) -> Result<(), AllocError>
 }
 
 fn decode_base64<'a>(alloc: Global, text: &str) -> Result<Eio<'a>, EioFault>
-    ensures { Gives engine_view result (need EioFault.BadBase64 (option_map Packet.Own
-        (base64_bytes text.now))) }
+    ensures { Gives engine_view result (ok_or (option_map Packet.Own
+        (base64_bytes text.now)) EioFault.BadBase64) }
 {
     match STANDARD.decode(alloc, text.as_bytes()) {
         Ok(bytes) => Ok(Eio::Own(bytes)),
