@@ -1,4 +1,3 @@
 pub mod Taken
-pub mod Numbers
 pub mod Steps
 pub mod SizeLemmas

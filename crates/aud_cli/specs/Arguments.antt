@@ -1,13 +1,14 @@
 -- What the words of the command line ask for.
-use Rattle.std.specs.Prelude.{◌≡◌, ℕ, ◌≤◌, List, [], ◌∷◌, codes, Bool, true, false, ◌&&◌, nat_le, Option, Some, None, IfSome, is_some, option_map, option_and_then, unwrap_or, if◌then◌else◌}
+use Rattle.std.specs.Prelude.{◌≡◌, ℕ, ◌≤◌, List, [], ◌∷◌, codes, Bool, true, false, not, Option, Some, None, IfSome, option_map, option_and_then, unwrap_or, if◌then◌else◌}
 use Rattle.std.specs.List.{list_any}
-use Rattle.std.specs.Str.{all_ascii_digits, bytes_eq}
-use Rattle.std.specs.Str.Parse.{digits_value, without_leading_plus}
+use Rattle.std.specs.Str.{bytes_eq}
 use Rattle.aud_cli.specs.declared.choice.Mode.{Mode}
 use Rattle.aud_cli.specs.declared.choice.Mode.TheVariants.{Audit, Prove, Verify, Order, Upgrade}
 use Rattle.aud_cli.specs.declared.choice.Options.{Options}
 use Rattle.aud_cli.specs.declared.choice.ModeOptions.{ModeOptions}
 use Rattle.aud_cli.specs.Given.{Given, Words, given_of, values_of}
+use Rattle.aud_cli.specs.Once.{once, switched_on}
+use Rattle.aud_cli.specs.Sizes.{number_named}
 
 -- the mode of this name
 abbrev pub mode_named : List ℕ → Option Mode
@@ -23,15 +24,9 @@ abbrev pub mode_of : Words → Option Mode
 mode_of [] = None
 mode_of (word ∷ words) = mode_named word.now
 
--- the number that these digits write, where it is 1 to 64
-abbrev pub workers_written : List ℕ → Option ℕ
-workers_written digits =
-    let workers = digits_value 10 digits in
-    if all_ascii_digits digits && nat_le 1 workers && nat_le workers 64 then Some workers else None
-
 -- the workers of this text: decimal digits, and a plus may stand before them
 abbrev pub workers_named : List ℕ → Option ℕ
-workers_named text = workers_written (without_leading_plus text)
+workers_named text = number_named 1 64 text
 
 -- no option
 abbrev pub no_options : ModeOptions
@@ -42,33 +37,17 @@ abbrev pub is_audit : Mode → Bool
 is_audit Audit = true
 is_audit mode = false
 
--- these options and --quiet, which may stand once
-abbrev pub with_quiet : ModeOptions → Option ModeOptions
-with_quiet options = if options.quiet then None else Some (record options { quiet = true })
-
--- these options and --whole, which may stand once
-abbrev pub with_whole : ModeOptions → Option ModeOptions
-with_whole options = if options.whole then None else Some (record options { whole = true })
-
--- these options and --workers with its number, where it has one; it may stand once
-abbrev pub with_workers : ModeOptions → Option ℕ → Option ModeOptions
-with_workers options workers =
-    if is_some options.workers then None else option_map (λ workers. record options { workers = Some workers }) workers
-
--- these options and one that an audit alone has
-abbrev pub with_audit_option : ModeOptions → Given → Option ModeOptions
-with_audit_option options given =
-    if bytes_eq given.name (codes "--whole") then with_whole options
-    else (if bytes_eq given.name (codes "--workers") then with_workers options (workers_named given.value)
-    else None)
-
--- these options and the next one, where the mode has one of its name; files may stand any number of times
+-- these options and the next one, where the mode has one of its name: each may stand once. Files may stand any number of
+-- times
 abbrev pub with_given : Mode → ModeOptions → Given → Option ModeOptions
 with_given mode options given =
     if bytes_eq given.name [] then Some options
-    else (if bytes_eq given.name (codes "--quiet") then with_quiet options
-    else (if is_audit mode then with_audit_option options given
-    else None))
+    else (if bytes_eq given.name (codes "--quiet") then option_map (λ on. record options { quiet = on }) (switched_on options.quiet)
+    else (if not (is_audit mode) then None
+    else (if bytes_eq given.name (codes "--whole") then option_map (λ on. record options { whole = on }) (switched_on options.whole)
+    else (if bytes_eq given.name (codes "--workers")
+    then option_map (λ workers. record options { workers = Some workers }) (once options.workers (workers_named given.value))
+    else None))))
 
 -- these options and all that follow, in any order
 abbrev pub options_over : Mode → ModeOptions → List Given → Option ModeOptions

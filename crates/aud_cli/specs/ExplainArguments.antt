@@ -12,6 +12,7 @@ use Rattle.aud_cli.specs.declared.explain_options.ExplainOptions.{ExplainOptions
 use Rattle.aud_cli.specs.declared.explain_options.NamedRecord.{NamedRecord}
 use Rattle.aud_cli.specs.FailOn.{every_class, fail_on_named}
 use Rattle.aud_cli.specs.Given.{Given, Words, given_of, number_in, values_of}
+use Rattle.aud_cli.specs.Once.{once, switched_on}
 use Rattle.aud_cli.specs.Only.{only_named}
 
 -- none of the options that may stand once
@@ -19,57 +20,24 @@ abbrev pub no_choices : Choices
 no_choices =
     record { only = None; form = None; fail_on = None; whole = false; quiet = false; workers = None; lines = false; pids = false; records = false }
 
--- these options and --only with what it says, where that is known; it may stand once
-abbrev pub with_only : Choices → Option Only → Option Choices
-with_only choices only = if is_some choices.only then None else option_map (λ only. record choices { only = Some only }) only
-
--- these options and --fail-on with what it says, where that is known; it may stand once
-abbrev pub with_fail_on : Choices → Option FailOn → Option Choices
-with_fail_on choices fail_on = if is_some choices.fail_on then None else option_map (λ fail_on. record choices { fail_on = Some fail_on }) fail_on
-
--- these options and --workers with its number, where it has one; it may stand once
-abbrev pub with_workers : Choices → Option ℕ → Option Choices
-with_workers choices workers = if is_some choices.workers then None else option_map (λ workers. record choices { workers = Some workers }) workers
-
--- these options and --json or --html, of which one may stand, once
-abbrev pub with_form : Choices → OutputForm → Option Choices
-with_form choices form = if is_some choices.form then None else Some (record choices { form = Some form })
-
--- these options and --whole, which may stand once
-abbrev pub with_whole : Choices → Option Choices
-with_whole choices = if choices.whole then None else Some (record choices { whole = true })
-
--- these options and --quiet, which may stand once
-abbrev pub with_quiet : Choices → Option Choices
-with_quiet choices = if choices.quiet then None else Some (record choices { quiet = true })
-
--- these options and --lines, which may stand once
-abbrev pub with_lines : Choices → Option Choices
-with_lines choices = if choices.lines then None else Some (record choices { lines = true })
-
--- these options and --pid, which may stand any number of times
-abbrev pub with_pid : Choices → Option Choices
-with_pid choices = Some (record choices { pids = true })
-
--- these options and --record, which may too
-abbrev pub with_record : Choices → Option Choices
-with_record choices = Some (record choices { records = true })
-
--- these options and the next one, where there is one of its name; files may stand any number of times. Sessions, records
--- and what --lines names have places of their own
+-- these options and the next one, where there is one of its name: each but --pid and --record may stand once, and of --json
+-- and --html one. Files may stand any number of times. Sessions, records and what --lines names have places of their own
 abbrev pub with_given : Choices → Given → Option Choices
 with_given choices given =
     if bytes_eq given.name [] || bytes_eq given.name (codes "number") then Some choices
-    else (if bytes_eq given.name (codes "--pid") then with_pid choices
-    else (if bytes_eq given.name (codes "--record") then with_record choices
-    else (if bytes_eq given.name (codes "--json") then with_form choices Json
-    else (if bytes_eq given.name (codes "--html") then with_form choices Html
-    else (if bytes_eq given.name (codes "--whole") then with_whole choices
-    else (if bytes_eq given.name (codes "--quiet") then with_quiet choices
-    else (if bytes_eq given.name (codes "--only") then with_only choices (only_named given.value)
-    else (if bytes_eq given.name (codes "--fail-on") then with_fail_on choices (fail_on_named given.value)
-    else (if bytes_eq given.name (codes "--workers") then with_workers choices (workers_named given.value)
-    else (if bytes_eq given.name (codes "--lines") then with_lines choices
+    else (if bytes_eq given.name (codes "--pid") then Some (record choices { pids = true })
+    else (if bytes_eq given.name (codes "--record") then Some (record choices { records = true })
+    else (if bytes_eq given.name (codes "--json") then option_map (λ form. record choices { form = Some form }) (once choices.form (Some Json))
+    else (if bytes_eq given.name (codes "--html") then option_map (λ form. record choices { form = Some form }) (once choices.form (Some Html))
+    else (if bytes_eq given.name (codes "--whole") then option_map (λ on. record choices { whole = on }) (switched_on choices.whole)
+    else (if bytes_eq given.name (codes "--quiet") then option_map (λ on. record choices { quiet = on }) (switched_on choices.quiet)
+    else (if bytes_eq given.name (codes "--only")
+    then option_map (λ only. record choices { only = Some only }) (once choices.only (only_named given.value))
+    else (if bytes_eq given.name (codes "--fail-on")
+    then option_map (λ fail_on. record choices { fail_on = Some fail_on }) (once choices.fail_on (fail_on_named given.value))
+    else (if bytes_eq given.name (codes "--workers")
+    then option_map (λ workers. record choices { workers = Some workers }) (once choices.workers (workers_named given.value))
+    else (if bytes_eq given.name (codes "--lines") then option_map (λ on. record choices { lines = on }) (switched_on choices.lines)
     else None))))))))))
 
 -- these options and all that follow, in any order

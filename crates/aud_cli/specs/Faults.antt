@@ -6,23 +6,14 @@ use Rattle.aud_cert.specs.declared.fault.Fault.TheVariants.{NoLog, Chain, Order,
 use Rattle.aud_cli.specs.declared.faults.Faults.{Faults}
 use Rattle.aud_cli.specs.Names.{has_name}
 
--- the words of faults, class by class
-abbrev pub is_recording_fault : List ℕ → Bool
-is_recording_fault name =
+-- this is the word of a fault: of the class recording, packets or delivery
+abbrev pub is_fault : List ℕ → Bool
+is_fault name =
     bytes_eq name (codes "NOLOG") || bytes_eq name (codes "CHAIN") || bytes_eq name (codes "ORDER")
     || bytes_eq name (codes "CLIENT") || bytes_eq name (codes "NAMES")
-
-abbrev pub is_packets_fault : List ℕ → Bool
-is_packets_fault name = bytes_eq name (codes "FRAME") || bytes_eq name (codes "ORPHAN")
-
-abbrev pub is_delivery_fault : List ℕ → Bool
-is_delivery_fault name =
-    bytes_eq name (codes "CONTENT") || bytes_eq name (codes "EXTRA") || bytes_eq name (codes "DOUBLED")
+    || bytes_eq name (codes "FRAME") || bytes_eq name (codes "ORPHAN")
+    || bytes_eq name (codes "CONTENT") || bytes_eq name (codes "EXTRA") || bytes_eq name (codes "DOUBLED")
     || bytes_eq name (codes "SWAPPED") || bytes_eq name (codes "LOST") || bytes_eq name (codes "WINDOW") || bytes_eq name (codes "TAIL")
-
--- this is the word of a fault
-abbrev pub is_fault : List ℕ → Bool
-is_fault name = is_recording_fault name || is_packets_fault name || is_delivery_fault name
 
 -- the faults whose words are among these
 abbrev pub faults_in : List (List ℕ) → Faults

@@ -48,17 +48,14 @@ alone word =
 abbrev pub number_in : List ℕ → Option ℕ
 number_in word = number_named 0 (2 ^ 64 - 1) word
 
--- this number
-abbrev pub number : List ℕ → Given
-number word = record { name = codes "number"; value = word }
-
 -- whether the number of a record may stand after this: --record has its tap, and after that any number of them
 abbrev pub takes_number : Given → Bool
 takes_number given = bytes_eq given.name (codes "--record") || bytes_eq given.name (codes "number")
 
 -- what a word gives by itself, where a number may stand there, or none may
 abbrev pub alone_or_number : Bool → List ℕ → Given
-alone_or_number may_be word = if may_be && is_some (number_in word) then number word else alone word
+alone_or_number may_be word =
+    if may_be && is_some (number_in word) then record { name = codes "number"; value = word } else alone word
 
 -- what the words give, where the first may be a number, or may not
 abbrev pub given_from : Bool → Words → Option (List Given)

@@ -1,6 +1,7 @@
 pub mod Arguments
 pub mod Names
 pub mod Faults
+pub mod Once
 pub mod Only
 pub mod FailOn
 pub mod Given

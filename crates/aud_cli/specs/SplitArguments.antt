@@ -7,32 +7,25 @@ use Rattle.aud_cli.specs.declared.split_options.PartsWanted.{PartsWanted}
 use Rattle.aud_cli.specs.declared.split_options.SplitChoices.{SplitChoices}
 use Rattle.aud_cli.specs.declared.split_options.SplitOptions.{SplitOptions}
 use Rattle.aud_cli.specs.Given.{Given, Words, given_of, values_of}
+use Rattle.aud_cli.specs.Once.{once, switched_on}
 use Rattle.aud_cli.specs.Sizes.{IsWithin, parts_named, size_named}
 
 -- none of the options that may stand once
 abbrev pub no_choices : SplitChoices
 no_choices = record { parts = None; quiet = false; workers = None }
 
--- these options and --parts or --bytes with what it says, where that is understood; one of them may stand, once
-abbrev pub with_parts : SplitChoices → Option PartsWanted → Option SplitChoices
-with_parts choices parts = if is_some choices.parts then None else option_map (λ parts. record choices { parts = Some parts }) parts
-
--- these options and --workers with its number, where it has one; it may stand once
-abbrev pub with_workers : SplitChoices → Option ℕ → Option SplitChoices
-with_workers choices workers = if is_some choices.workers then None else option_map (λ workers. record choices { workers = Some workers }) workers
-
--- these options and --quiet, which may stand once
-abbrev pub with_quiet : SplitChoices → Option SplitChoices
-with_quiet choices = if choices.quiet then None else Some (record choices { quiet = true })
-
--- these options and the next one, where there is one of its name; files and --into have their own places
+-- these options and the next one, where there is one of its name: each may stand once, and of --parts and --bytes one;
+-- files and --into have their own places
 abbrev pub with_given : SplitChoices → Given → Option SplitChoices
 with_given choices given =
     if bytes_eq given.name [] || bytes_eq given.name (codes "--into") then Some choices
-    else (if bytes_eq given.name (codes "--parts") then with_parts choices (parts_named given.value)
-    else (if bytes_eq given.name (codes "--bytes") then with_parts choices (size_named given.value)
-    else (if bytes_eq given.name (codes "--quiet") then with_quiet choices
-    else (if bytes_eq given.name (codes "--workers") then with_workers choices (workers_named given.value)
+    else (if bytes_eq given.name (codes "--parts")
+    then option_map (λ parts. record choices { parts = Some parts }) (once choices.parts (parts_named given.value))
+    else (if bytes_eq given.name (codes "--bytes")
+    then option_map (λ parts. record choices { parts = Some parts }) (once choices.parts (size_named given.value))
+    else (if bytes_eq given.name (codes "--quiet") then option_map (λ on. record choices { quiet = on }) (switched_on choices.quiet)
+    else (if bytes_eq given.name (codes "--workers")
+    then option_map (λ workers. record choices { workers = Some workers }) (once choices.workers (workers_named given.value))
     else None))))
 
 -- these options and all that follow, in any order

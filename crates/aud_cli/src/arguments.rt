@@ -1,12 +1,12 @@
 //! The arguments of the modes that read a bundle, `explain` apart.
-ghost use Rattle.std.specs.Prelude.{◌≡◌, ◌≤◌, true, codes, None, Some, IfErr, IfOk, IfSome};
-ghost use Rattle.std.specs.List.{list_any};
-ghost use Rattle.std.specs.Str.{bytes_eq};
-ghost use Rattle.aud_cli.specs.Arguments.{AreWithin, asked, files_named, given_in, has_quiet, is_audit, mode_named, mode_of, options_given, options_of, with_audit_option, with_given, with_quiet, with_whole, with_workers, workers_named};
+ghost use Rattle.std.specs.Prelude.{◌≡◌, ◌≤◌, true, None, IfErr, IfOk, IfSome};
+ghost use Rattle.aud_cli.specs.Arguments.{AreWithin, asked, files_named, given_in, has_quiet, mode_named, mode_of, options_given, options_of, with_given, workers_named};
 
 use crate::choice::{InputFiles, Mode, ModeOptions, Options};
 use crate::given::{Given, from, given_of, is_end, next_given, takes_number, values_of};
+use crate::once::{once, switched_on};
 use crate::parser::refusal;
+use crate::sizes::number_named;
 use clap::Error;
 use std::alloc::{AllocError, Global};
 
@@ -14,18 +14,13 @@ use std::alloc::{AllocError, Global};
 fn mode_named(name: &str) -> Option<Mode>
     ensures { result ≡ mode_named name.now }
 {
-    if name == "audit" {
-        Some(Mode::Audit)
-    } else if name == "prove" {
-        Some(Mode::Prove)
-    } else if name == "verify" {
-        Some(Mode::Verify)
-    } else if name == "order" {
-        Some(Mode::Order)
-    } else if name == "upgrade" {
-        Some(Mode::Upgrade)
-    } else {
-        None
+    match name {
+        "audit" => Some(Mode::Audit),
+        "prove" => Some(Mode::Prove),
+        "verify" => Some(Mode::Verify),
+        "order" => Some(Mode::Order),
+        "upgrade" => Some(Mode::Upgrade),
+        _ => None,
     }
 }
 
@@ -35,94 +30,27 @@ pub fn workers_named(text: &str) -> Option<u8>
     ensures number { result ≡ workers_named text.now }
     ensures within { IfSome result (λ n. (1 ≤ n) × (n ≤ 64)) }
 {
-    let workers = text.parse::<u8>().ok()?;
-    if (1..=64).contains(&workers) {
-        Some(workers)
-    } else {
-        None
-    }
+    let workers = number_named(1, 64, text)?;
+    Some(workers as u8)
 }
 
-/// Whether the mode has `--workers` and `--whole`.
-fn is_audit(mode: Mode) -> bool
-    ensures value { result ≡ is_audit mode }
-    ensures mode { result ≡ true → mode ≡ Mode.Audit }
-{
-    matches!(mode, Mode::Audit)
-}
-
-/// These options and `--quiet`, which may stand once.
-fn with_quiet(options: ModeOptions) -> Option<ModeOptions>
-    ensures { result ≡ with_quiet options }
-{
-    if options.quiet {
-        return None;
-    }
-    Some(ModeOptions {
-        quiet: true,
-        ..options
-    })
-}
-
-/// These options and `--whole`, which may stand once.
-fn with_whole(options: ModeOptions) -> Option<ModeOptions>
-    ensures { result ≡ with_whole options }
-{
-    if options.whole {
-        return None;
-    }
-    Some(ModeOptions {
-        whole: true,
-        ..options
-    })
-}
-
-/// These options and `--workers` with its number, where it has one; it may stand once.
-fn with_workers(options: ModeOptions, workers: Option<u8>) -> Option<ModeOptions>
-    ensures { result ≡ with_workers options workers }
-{
-    if options.workers.is_some() {
-        return None;
-    }
-    let workers = workers?;
-    Some(ModeOptions {
-        workers: Some(workers),
-        ..options
-    })
-}
-
-/// These options and one that an audit alone has.
-fn with_audit_option(options: ModeOptions, given: &Given<'_>) -> Option<ModeOptions>
-    requires { AreWithin Mode.Audit options }
-    ensures options { result ≡ with_audit_option options given.now }
-    ensures within { IfSome result (AreWithin Mode.Audit) }
-{
-    let name = given.name();
-    if name == "--whole" {
-        with_whole(options)
-    } else if name == "--workers" {
-        with_workers(options, workers_named(given.value()))
-    } else {
-        None
-    }
-}
-
-/// These options and the next one. Files have their own place.
-fn with_given(mode: Mode, options: ModeOptions, given: &Given<'_>) -> Option<ModeOptions>
-    requires { AreWithin mode options }
-    ensures options { result ≡ with_given mode options given.now }
+/// These options and the next one; `--workers` and `--whole` are of an audit alone. Files have their own place.
+fn with_given(mode: Mode, before: ModeOptions, given: &Given<'_>) -> Option<ModeOptions>
+    requires { AreWithin mode before }
+    ensures options { result ≡ with_given mode before given.now }
     ensures within { IfSome result (AreWithin mode) }
 {
-    let name = given.name();
-    if name == "" {
-        Some(options)
-    } else if name == "--quiet" {
-        with_quiet(options)
-    } else if is_audit(mode) {
-        with_audit_option(options, given)
-    } else {
-        None
+    let mut options = before;
+    match (given.name(), mode) {
+        ("", _) => {}
+        ("--quiet", _) => options.quiet = switched_on(before.quiet)?,
+        ("--whole", Mode::Audit) => options.whole = switched_on(before.whole)?,
+        ("--workers", Mode::Audit) => {
+            options.workers = Some(once(before.workers, workers_named(given.value()))?);
+        }
+        _ => return None,
     }
+    Some(options)
 }
 
 /// The options that the arguments after the mode's name give, in any order.
@@ -200,13 +128,6 @@ fn given_in<'a>(alloc: Global, words: &[&'a str]) -> Result<Vec<Given<'a>>, Allo
     }
 }
 
-/// Whether `--quiet` is given.
-fn is_quiet(all: &[Given<'_>]) -> bool
-    ensures { result ≡ list_any (λ given. bytes_eq given.name (codes "--quiet")) all.now }
-{
-    all.iter().any(|given| given.name() == "--quiet")
-}
-
 /// The files that arguments which [`options`] understands name, in their order, and whether they ask for quiet.
 pub fn files(alloc: Global, words: &[&str]) -> Result<InputFiles, AllocError>
     ensures names { IfOk result (λ files. files.names ≡ files_named words.now) }
@@ -214,6 +135,6 @@ pub fn files(alloc: Global, words: &[&str]) -> Result<InputFiles, AllocError>
 {
     let all = given_in(alloc, words)?;
     let names = values_of(alloc, "", &all)?;
-    let quiet = is_quiet(&all);
+    let quiet = all.iter().any(|given| given.name() == "--quiet");
     Ok(InputFiles { names, quiet })
 }

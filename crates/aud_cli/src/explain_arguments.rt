@@ -1,13 +1,14 @@
 //! The arguments of `explain`.
 ghost use Rattle.std.specs.Prelude.{◌≡◌, ◌++◌, ◌∷◌, [], OnOk, ◌≢◌, ◌≤◌, Some, None, IfErr, IfOk, IfSome, option_map, slice_get};
 ghost use Rattle.clap.specs.Words.{kind_of};
-ghost use Rattle.aud_cli.specs.ExplainArguments.{AreWithin, asked, asked_by, choices_of, fails_tail, is_mixed, is_page, lacks_whole, no_choices, options_of, records_of, shows_tail, with_fail_on, with_form, with_given, with_lines, with_only, with_pid, with_quiet, with_record, with_whole, with_workers};
+ghost use Rattle.aud_cli.specs.ExplainArguments.{AreWithin, asked, choices_of, fails_tail, is_mixed, is_page, lacks_whole, no_choices, options_of, records_of, shows_tail, with_given};
 
 use crate::arguments::workers_named;
 use crate::explain_options::{Choices, ExplainOptions, NamedRecord};
 use crate::fail_on::{EVERY_CLASS, FailOn, fail_on_named};
 use crate::given::{Given, given_of, number_in, values_of};
 use crate::help::{RECORD_NUMBERS, TAIL_ALONE};
+use crate::once::{once, switched_on};
 use crate::only::{Only, only_named};
 use crate::output_form::OutputForm;
 use crate::parser::refusal_or;
@@ -16,152 +17,32 @@ use clap::Error;
 use clap::error::ErrorKind;
 use std::alloc::{AllocError, Global};
 
-/// These options and `--only`, which may stand once.
-fn with_only(choices: Choices, only: Option<Only>) -> Option<Choices>
-    ensures { result ≡ with_only choices only }
-{
-    if choices.only.is_some() {
-        return None;
-    }
-    let only = only?;
-    Some(Choices {
-        only: Some(only),
-        ..choices
-    })
-}
-
-/// These options and `--fail-on`, which may stand once.
-fn with_fail_on(choices: Choices, fail_on: Option<FailOn>) -> Option<Choices>
-    ensures { result ≡ with_fail_on choices fail_on }
-{
-    if choices.fail_on.is_some() {
-        return None;
-    }
-    let fail_on = fail_on?;
-    Some(Choices {
-        fail_on: Some(fail_on),
-        ..choices
-    })
-}
-
-/// These options and `--workers`, which may stand once.
-fn with_workers(choices: Choices, workers: Option<u8>) -> Option<Choices>
-    ensures { result ≡ with_workers choices workers }
-{
-    if choices.workers.is_some() {
-        return None;
-    }
-    let workers = workers?;
-    Some(Choices {
-        workers: Some(workers),
-        ..choices
-    })
-}
-
-/// These options and `--json` or `--html`, of which one may stand, once.
-fn with_form(choices: Choices, form: OutputForm) -> Option<Choices>
-    ensures { result ≡ with_form choices form }
-{
-    if choices.form.is_some() {
-        return None;
-    }
-    Some(Choices {
-        form: Some(form),
-        ..choices
-    })
-}
-
-/// These options and `--whole`, which may stand once.
-fn with_whole(choices: Choices) -> Option<Choices>
-    ensures { result ≡ with_whole choices }
-{
-    if choices.whole {
-        return None;
-    }
-    Some(Choices {
-        whole: true,
-        ..choices
-    })
-}
-
-/// These options and `--quiet`, which may stand once.
-fn with_quiet(choices: Choices) -> Option<Choices>
-    ensures { result ≡ with_quiet choices }
-{
-    if choices.quiet {
-        return None;
-    }
-    Some(Choices {
-        quiet: true,
-        ..choices
-    })
-}
-
-/// These options and `--lines`, which may stand once.
-fn with_lines(choices: Choices) -> Option<Choices>
-    ensures { result ≡ with_lines choices }
-{
-    if choices.lines {
-        return None;
-    }
-    Some(Choices {
-        lines: true,
-        ..choices
-    })
-}
-
-/// These options and `--pid`, which may stand any number of times.
-fn with_pid(choices: Choices) -> Option<Choices>
-    ensures { result ≡ with_pid choices }
-{
-    Some(Choices {
-        pids: true,
-        ..choices
-    })
-}
-
-/// These options and `--record`, which may too.
-fn with_record(choices: Choices) -> Option<Choices>
-    ensures { result ≡ with_record choices }
-{
-    Some(Choices {
-        records: true,
-        ..choices
-    })
-}
-
 /// These options and the next one. Sessions, records and files, and what `--lines` names, have their own places.
-fn with_given(choices: Choices, given: &Given<'_>) -> Option<Choices>
-    requires { AreWithin choices }
-    ensures choices { result ≡ with_given choices given.now }
+fn with_given(before: Choices, given: &Given<'_>) -> Option<Choices>
+    requires { AreWithin before }
+    ensures choices { result ≡ with_given before given.now }
     ensures within { IfSome result AreWithin }
 {
-    let name = given.name();
-    if name == "" || name == "number" {
-        Some(choices)
-    } else if name == "--pid" {
-        with_pid(choices)
-    } else if name == "--record" {
-        with_record(choices)
-    } else if name == "--json" {
-        with_form(choices, OutputForm::Json)
-    } else if name == "--html" {
-        with_form(choices, OutputForm::Html)
-    } else if name == "--whole" {
-        with_whole(choices)
-    } else if name == "--quiet" {
-        with_quiet(choices)
-    } else if name == "--only" {
-        with_only(choices, only_named(given.value()))
-    } else if name == "--fail-on" {
-        with_fail_on(choices, fail_on_named(given.value()))
-    } else if name == "--workers" {
-        with_workers(choices, workers_named(given.value()))
-    } else if name == "--lines" {
-        with_lines(choices)
-    } else {
-        None
+    let mut choices = before;
+    match given.name() {
+        "" | "number" => {}
+        "--pid" => choices.pids = true,
+        "--record" => choices.records = true,
+        "--json" => choices.form = Some(once(before.form, Some(OutputForm::Json))?),
+        "--html" => choices.form = Some(once(before.form, Some(OutputForm::Html))?),
+        "--whole" => choices.whole = switched_on(before.whole)?,
+        "--quiet" => choices.quiet = switched_on(before.quiet)?,
+        "--only" => choices.only = Some(once(before.only, only_named(given.value()))?),
+        "--fail-on" => {
+            choices.fail_on = Some(once(before.fail_on, fail_on_named(given.value()))?);
+        }
+        "--workers" => {
+            choices.workers = Some(once(before.workers, workers_named(given.value()))?);
+        }
+        "--lines" => choices.lines = switched_on(before.lines)?,
+        _ => return None,
     }
+    Some(choices)
 }
 
 /// The options of all that is given, where it is understood.
@@ -317,24 +198,6 @@ fn options_of(
     })
 }
 
-/// What is asked for by all that is given, where it is understood.
-fn asked_by(alloc: Global, all: &[Given<'_>]) -> Result<Option<ExplainOptions>, AllocError>
-    ensures options { IfOk result (λ o. o ≡ asked_by all.now) }
-    ensures within { IfOk result (λ o. IfSome o (λ o. (1 ≤ o.workers) × (o.workers ≤ 64))) }
-{
-    let Some(choices) = choices_of(all) else {
-        return Ok(None);
-    };
-    if lacks_whole(choices) || is_mixed(choices) {
-        return Ok(None);
-    }
-    let Some(records) = records_of(alloc, all)? else {
-        return Ok(None);
-    };
-    let options = options_of(alloc, choices, records, all)?;
-    Ok(Some(options))
-}
-
 /// What the arguments ask for, where they are understood.
 fn asked(alloc: Global, words: &[&str]) -> Result<Option<ExplainOptions>, AllocError>
     ensures options { IfOk result (λ o. o ≡ asked words.now) }
@@ -346,10 +209,20 @@ fn asked(alloc: Global, words: &[&str]) -> Result<Option<ExplainOptions>, AllocE
     if *name != "explain" {
         return Ok(None);
     }
-    match given_of(alloc, rest)? {
-        Some(all) => asked_by(alloc, &all),
-        None => Ok(None),
+    let Some(all) = given_of(alloc, rest)? else {
+        return Ok(None);
+    };
+    let Some(choices) = choices_of(&all) else {
+        return Ok(None);
+    };
+    if lacks_whole(choices) || is_mixed(choices) {
+        return Ok(None);
     }
+    let Some(records) = records_of(alloc, &all)? else {
+        return Ok(None);
+    };
+    let options = options_of(alloc, choices, records, &all)?;
+    Ok(Some(options))
 }
 
 /// Why words are refused that the parser lets pass.

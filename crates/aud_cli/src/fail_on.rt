@@ -82,11 +82,10 @@ fn is_finding(name: &str) -> bool
     ensures { result ≡ is_finding name.now }
 {
     is_fault(name)
-        || name == "delivery"
-        || name == "packets"
-        || name == "recording"
-        || name == "refused"
-        || name == "nothing"
+        || matches!(
+            name,
+            "delivery" | "packets" | "recording" | "refused" | "nothing"
+        )
 }
 
 /// Whether each name of the list is one of these.

@@ -1,6 +1,6 @@
 //! Faults by their words.
 ghost use Rattle.std.specs.Prelude.{◌≡◌};
-ghost use Rattle.aud_cli.specs.Faults.{faults_in, has_fault, is_delivery_fault, is_fault, is_packets_fault, is_recording_fault};
+ghost use Rattle.aud_cli.specs.Faults.{faults_in, has_fault, is_fault};
 ghost use Rattle.aud_cli.specs.Names.{names_in};
 
 use crate::names::has_name;
@@ -67,36 +67,16 @@ impl Faults {
     }
 }
 
-/// Whether this is the word of a fault of the class *recording*.
-fn is_recording_fault(name: &str) -> bool
-    ensures { result ≡ is_recording_fault name.now }
-{
-    name == "NOLOG" || name == "CHAIN" || name == "ORDER" || name == "CLIENT" || name == "NAMES"
-}
-
-fn is_packets_fault(name: &str) -> bool
-    ensures { result ≡ is_packets_fault name.now }
-{
-    name == "FRAME" || name == "ORPHAN"
-}
-
-fn is_delivery_fault(name: &str) -> bool
-    ensures { result ≡ is_delivery_fault name.now }
-{
-    name == "CONTENT"
-        || name == "EXTRA"
-        || name == "DOUBLED"
-        || name == "SWAPPED"
-        || name == "LOST"
-        || name == "WINDOW"
-        || name == "TAIL"
-}
-
 /// Whether this is the word of one of them.
 pub fn is_fault(name: &str) -> bool
     ensures { result ≡ is_fault name.now }
 {
-    is_recording_fault(name) || is_packets_fault(name) || is_delivery_fault(name)
+    matches!(name, "NOLOG" | "CHAIN" | "ORDER" | "CLIENT" | "NAMES")
+        || matches!(name, "FRAME" | "ORPHAN")
+        || matches!(
+            name,
+            "CONTENT" | "EXTRA" | "DOUBLED" | "SWAPPED" | "LOST" | "WINDOW" | "TAIL"
+        )
 }
 
 /// Those whose words are in the list.

@@ -1,7 +1,7 @@
 //! The arguments as options and files.
 ghost use Rattle.std.specs.Prelude.{◌≡◌, ◌≤◌, ◌++◌, drop, length, map, IfOk, IfSome, OnOk, option_map};
 ghost use Rattle.std.specs.Str.{bytes_eq};
-ghost use Rattle.aud_cli.specs.Given.{alone, alone_or_number, file, given_of, is_file, number, number_in, takes_number, takes_value, values_of};
+ghost use Rattle.aud_cli.specs.Given.{alone, alone_or_number, file, given_of, is_file, number_in, takes_number, takes_value, values_of};
 ghost use Rattle.aud_cli.specs.Private.Steps.{is_end, next_given};
 
 use crate::sizes::number_named;
@@ -44,15 +44,18 @@ impl<'a> Given<'a> {
 fn takes_value(word: &str) -> bool
     ensures { result ≡ takes_value word.now }
 {
-    word == "--pid"
-        || word == "--only"
-        || word == "--fail-on"
-        || word == "--workers"
-        || word == "--record"
-        || word == "--parts"
-        || word == "--bytes"
-        || word == "--into"
-        || word == "--lines"
+    matches!(
+        word,
+        "--pid"
+            | "--only"
+            | "--fail-on"
+            | "--workers"
+            | "--record"
+            | "--parts"
+            | "--bytes"
+            | "--into"
+            | "--lines"
+    )
 }
 
 /// Whether the word is a file.
@@ -94,15 +97,6 @@ pub fn number_in(word: &str) -> Option<u64>
     number_named(0, u64::MAX, word)
 }
 
-fn number(word: &str) -> Given<'_>
-    ensures { result ≡ number word.now }
-{
-    Given {
-        name: "number",
-        value: word,
-    }
-}
-
 /// Whether the number of a record may stand after this.
 pub fn takes_number(given: &Given<'_>) -> bool
     ensures { result ≡ takes_number given.now }
@@ -115,7 +109,10 @@ fn alone_or_number(may_be: bool, word: &str) -> Given<'_>
     ensures { result ≡ alone_or_number may_be word.now }
 {
     if may_be && number_in(word).is_some() {
-        number(word)
+        Given {
+            name: "number",
+            value: word,
+        }
     } else {
         alone(word)
     }

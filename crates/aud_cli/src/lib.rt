@@ -53,6 +53,7 @@ mod help;
 mod merge_arguments;
 mod merge_options;
 mod names;
+mod once;
 mod only;
 mod output_form;
 mod parser;

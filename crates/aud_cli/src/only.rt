@@ -1,6 +1,6 @@
 //! Which sessions are shown.
 ghost use Rattle.std.specs.Prelude.{◌≡◌};
-ghost use Rattle.aud_cli.specs.Only.{class_named, is_same, only_named, shows, shows_refused};
+ghost use Rattle.aud_cli.specs.Only.{class_named, only_named, shows, shows_refused};
 
 use crate::faults::{Faults, faults_in, is_fault};
 use aud_cert::{Class, Fault, class_of};
@@ -42,14 +42,11 @@ pub enum Only {
 pub fn class_named(name: &str) -> Option<Class>
     ensures { result ≡ class_named name.now }
 {
-    if name == "delivery" {
-        Some(Class::Delivery)
-    } else if name == "packets" {
-        Some(Class::Packets)
-    } else if name == "recording" {
-        Some(Class::Recording)
-    } else {
-        None
+    match name {
+        "delivery" => Some(Class::Delivery),
+        "packets" => Some(Class::Packets),
+        "recording" => Some(Class::Recording),
+        _ => None,
     }
 }
 
@@ -67,13 +64,6 @@ pub fn only_named(name: &str) -> Option<Only>
     Some(Only::Of(class))
 }
 
-/// Whether they are one class.
-fn is_same(shown: Class, class: Class) -> bool
-    ensures { result ≡ is_same shown class }
-{
-    shown == class
-}
-
 impl Only {
     /// Whether a session that is answered no with this fault is shown.
     pub fn shows(self, fault: &Fault) -> bool
@@ -81,7 +71,7 @@ impl Only {
     {
         match self {
             Only::No => true,
-            Only::Of(class) => is_same(class, class_of(fault)),
+            Only::Of(class) => class == class_of(fault),
             Only::With(faults) => faults.has(fault),
         }
     }

@@ -2,11 +2,12 @@
 ghost use Rattle.std.specs.Prelude.{◌≡◌, ◌≢◌, ◌≤◌, Some, None, IfErr, IfOk, IfSome};
 ghost use Rattle.clap.specs.Words.{kind_of};
 ghost use Rattle.aud_cli.specs.Sizes.{IsWithin};
-ghost use Rattle.aud_cli.specs.SplitArguments.{AreWithin, IsWithinAll, asked, choices_of, files_to_split, has_stdin, no_choices, only_text, options_of, split_of, with_given, with_parts, with_quiet, with_workers};
+ghost use Rattle.aud_cli.specs.SplitArguments.{AreWithin, IsWithinAll, asked, choices_of, files_to_split, has_stdin, no_choices, only_text, options_of, split_of, with_given};
 
 use crate::arguments::workers_named;
 use crate::given::{Given, given_of, values_of};
 use crate::help::{BAD_SIZE, STDIN_TWICE};
+use crate::once::{once, switched_on};
 use crate::parser::refusal_or;
 use crate::sizes::{parts_named, size_named};
 use crate::split_options::{PartsWanted, SplitChoices, SplitOptions};
@@ -15,67 +16,24 @@ use clap::Error;
 use clap::error::ErrorKind;
 use std::alloc::{AllocError, Global};
 
-/// These options and `--parts` or `--bytes`, of which one may stand, once.
-fn with_parts(choices: SplitChoices, parts: Option<PartsWanted>) -> Option<SplitChoices>
-    ensures { result ≡ with_parts choices parts }
-{
-    if choices.parts.is_some() {
-        return None;
-    }
-    let parts = parts?;
-    Some(SplitChoices {
-        parts: Some(parts),
-        ..choices
-    })
-}
-
-/// These options and `--workers`, which may stand once.
-fn with_workers(choices: SplitChoices, workers: Option<u8>) -> Option<SplitChoices>
-    ensures { result ≡ with_workers choices workers }
-{
-    if choices.workers.is_some() {
-        return None;
-    }
-    let workers = workers?;
-    Some(SplitChoices {
-        workers: Some(workers),
-        ..choices
-    })
-}
-
-/// These options and `--quiet`, which may stand once.
-fn with_quiet(choices: SplitChoices) -> Option<SplitChoices>
-    ensures { result ≡ with_quiet choices }
-{
-    if choices.quiet {
-        return None;
-    }
-    Some(SplitChoices {
-        quiet: true,
-        ..choices
-    })
-}
-
 /// These options and the next one. Files and the folder have their own places.
-fn with_given(choices: SplitChoices, given: &Given<'_>) -> Option<SplitChoices>
-    requires { AreWithin choices }
-    ensures choices { result ≡ with_given choices given.now }
+fn with_given(before: SplitChoices, given: &Given<'_>) -> Option<SplitChoices>
+    requires { AreWithin before }
+    ensures choices { result ≡ with_given before given.now }
     ensures within { IfSome result AreWithin }
 {
-    let name = given.name();
-    if name == "" || name == "--into" {
-        Some(choices)
-    } else if name == "--parts" {
-        with_parts(choices, parts_named(given.value()))
-    } else if name == "--bytes" {
-        with_parts(choices, size_named(given.value()))
-    } else if name == "--quiet" {
-        with_quiet(choices)
-    } else if name == "--workers" {
-        with_workers(choices, workers_named(given.value()))
-    } else {
-        None
+    let mut choices = before;
+    match given.name() {
+        "" | "--into" => {}
+        "--parts" => choices.parts = Some(once(before.parts, parts_named(given.value()))?),
+        "--bytes" => choices.parts = Some(once(before.parts, size_named(given.value()))?),
+        "--quiet" => choices.quiet = switched_on(before.quiet)?,
+        "--workers" => {
+            choices.workers = Some(once(before.workers, workers_named(given.value()))?);
+        }
+        _ => return None,
     }
+    Some(choices)
 }
 
 /// The options of all that is given, where it is understood.
