@@ -1,30 +1,23 @@
 //! The command `explain`.
 ghost use Rattle.std.specs.Prelude.{◌<◌, IfOk, OnOk, length};
 
-use crate::part_files::refused_for;
+use crate::failure::{Failure, refused_for, unread};
 use crate::progress::Progress;
 use crate::refusal::refuse;
-use crate::source::{Source, bytes_in, first_and_others, unread};
-use crate::{fail, fail_for, status_code};
+use crate::source::{Source, bytes_in, first_and_others, keys_of};
+use crate::status_code;
 use aud_app::{RunFault, Watched};
 use aud_cli::{ExplainOptions, explain_asked};
 use aud_explain_app::{Ending, ExplainFault, Unexplained, explain};
 use aud_explanation::printed;
-use aud_input::{PartLines, Size};
+use aud_input::PartLines;
 use aud_parts::{LinesFault, read_lines};
-use aud_tap::Text;
 use std::alloc::{AllocError, Global};
-use std::hash::RandomState;
 use std::io::{IsTerminal, Stderr};
 use std::process::ExitCode;
 use std::sync::Wait;
 use std::thread::Threads;
 use std::time::Clock;
-
-/// Whether the arguments ask for explanations.
-pub fn is_explain(words: &[&str]) -> bool {
-    words.first().is_some_and(|word| *word == "explain")
-}
 
 type Watch<'a> = Watched<Progress<Stderr, Source<'a>>>;
 
@@ -61,163 +54,121 @@ fn push_file<'a>(
     Ok(())
 }
 
-/// Says in these words why the file that names the lines is refused.
-fn refused_lines(rt: &impl Eprint, alloc: Global, name: &str, fault: LinesFault) -> ExitCode {
-    if let LinesFault::Memory = fault {
-        return fail(rt, RunFault::Memory);
-    }
-    match format!(in alloc; "{fault}") {
-        Ok(words) => refused_for(rt, alloc, name, words.as_str()),
-        Err(_) => fail(rt, RunFault::Memory),
-    }
-}
-
 /// The lines of a part, as the file of this name names them.
-fn lines_in(host: &HostRuntime, alloc: Global, name: &str) -> Result<PartLines, ExitCode> {
+fn lines_in(host: &HostRuntime, alloc: Global, name: &str) -> Result<PartLines, Failure> {
     let text = bytes_in(host, alloc, name)?;
     match read_lines(alloc, text.as_slice()) {
         Ok(part) => Ok(part),
-        Err(fault) => Err(refused_lines(host, alloc, name, fault)),
+        Err(LinesFault::Memory) => Err(Failure::from(RunFault::Memory)),
+        Err(fault) => {
+            let words = format!(in alloc; "{fault}")?;
+            Err(refused_for(alloc, name, words.as_str())?)
+        }
     }
 }
 
-/// The same, where the arguments name such a file.
-fn part_of(
-    host: &HostRuntime,
-    alloc: Global,
-    name: &Option<Text>,
-) -> Result<Option<PartLines>, ExitCode> {
-    match name {
-        Some(name) => Ok(Some(lines_in(host, alloc, name.as_str())?)),
-        None => Ok(None),
-    }
-}
-
-/// Says that the lines are those of another part, of this size.
-fn other_part(rt: &impl Eprint, alloc: Global, name: &str, size: Size) -> ExitCode {
-    let Size { lines, bytes } = size;
-    match format!(in alloc; "is of a part of {lines} lines and {bytes} bytes") {
-        Ok(words) => refused_for(rt, alloc, name, words.as_str()),
-        Err(_) => fail(rt, RunFault::Memory),
-    }
-}
-
-/// Says why nothing was explained, or not all was written.
-fn failed(
-    rt: &impl Eprint,
+/// The lines are those of another part, which is of this size.
+fn other_part(
     alloc: Global,
     options: &ExplainOptions,
-    part: &Option<PartLines>,
-    files: &[Watch<'_>],
-    output_error: Option<i32>,
-    fault: ExplainFault,
-) -> ExitCode {
-    match (fault, part, &options.lines) {
-        (ExplainFault::Unexplained(why), _, _) => unexplained(rt, alloc, options, files, why),
-        (ExplainFault::NoRecord { number }, _, _) => no_record(rt, alloc, options, number),
-        (ExplainFault::OtherPart, Some(part), Some(name)) => {
-            other_part(rt, alloc, name.as_str(), part.size)
-        }
-        (ExplainFault::OtherPart | ExplainFault::Write, _, _) => {
-            fail_for(rt, RunFault::Write, output_error)
-        }
-    }
+    part: Option<PartLines>,
+) -> Result<Failure, AllocError> {
+    let (Some(name), Some(part)) = (&options.lines, &part) else {
+        return Ok(Failure::from(RunFault::Write));
+    };
+    let (lines, bytes) = (part.size.lines, part.size.bytes);
+    let words = format!(in alloc; "is of a part of {lines} lines and {bytes} bytes")?;
+    refused_for(alloc, name.as_str(), words.as_str())
 }
 
-/// Says why nothing was explained.
+/// Why nothing was explained.
 fn unexplained(
     rt: &impl Eprint,
     alloc: Global,
     options: &ExplainOptions,
     files: &[Watch<'_>],
     why: Unexplained,
-) -> ExitCode {
+) -> Result<Failure, AllocError> {
     match why {
         Unexplained::Unread { file } => unread_at(rt, alloc, options, files, file),
-        Unexplained::Memory => fail(rt, RunFault::Memory),
-        Unexplained::Spawn => fail(rt, RunFault::Spawn),
-        Unexplained::NoSession { number } => no_session(rt, alloc, options, number),
+        Unexplained::Memory => Ok(Failure::from(RunFault::Memory)),
+        Unexplained::Spawn => Ok(Failure::from(RunFault::Spawn)),
+        Unexplained::NoSession { number } => no_session(alloc, options, number),
     }
 }
 
+/// The file with this number could not be read. Where records are asked for, and it and the next one of the arguments could
+/// be a tap and a number, a line says how the records of another tap are asked for.
 fn unread_at(
     rt: &impl Eprint,
     alloc: Global,
     options: &ExplainOptions,
     files: &[Watch<'_>],
     file: usize,
-) -> ExitCode {
+) -> Result<Failure, AllocError> {
     let os_error = match files.get(file) {
         Some(watched) => watched.os_error(),
         None => None,
     };
-    let name = match options.files.as_slice().get(file) {
+    let names = options.files.as_slice().get(file..).unwrap_or(&[]);
+    let name = match names.first() {
         Some(name) => name.as_str(),
         None => "-",
     };
-    let status = unread(rt, alloc, name, os_error);
-    say_of_taps(rt, alloc, options, file);
-    status
-}
-
-/// Where records are asked for, and this file and the next one of the arguments could be a tap and a number: says how the
-/// records of another tap are asked for.
-fn say_of_taps(rt: &impl Eprint, alloc: Global, options: &ExplainOptions, file: usize) {
-    let [name, number, ..] = options.files.as_slice().get(file..).unwrap_or(&[]) else {
-        return;
-    };
-    if options.records.as_slice().is_empty() || number.as_str().parse::<u64>().is_err() {
-        return;
+    let failure = unread(alloc, name, os_error)?;
+    match names {
+        [_, number, ..]
+            if !options.records.as_slice().is_empty() && number.as_str().parse::<u64>().is_ok() => {
+            let (name, number) = (printed(alloc, name)?, number.as_str());
+            let name = name.as_str();
+            let _ = failure.end(rt);
+            let _ = eprintln!(rt;
+                "  tip: another tap has a --record of its own: --record {name} {number}"
+            );
+            Ok(Failure::Said(3))
+        }
+        _ => Ok(failure),
     }
-    let (Ok(name), number) = (printed(alloc, name.as_str()), number.as_str()) else {
-        return;
-    };
-    let name = name.as_str();
-    let _ = eprintln!(rt; "  tip: another tap has a --record of its own: --record {name} {number}");
 }
 
-/// Says that nothing names a session of the arguments.
+/// Nothing names a session of the arguments.
 fn no_session(
-    rt: &impl Eprint,
     alloc: Global,
     options: &ExplainOptions,
     number: usize,
-) -> ExitCode {
+) -> Result<Failure, AllocError> {
     let pid = match options.pids.as_slice().get(number) {
-        Some(pid) => pid.as_str(),
-        None => "",
-    };
-    let Ok(pid) = printed(alloc, pid) else {
-        return fail(rt, RunFault::Memory);
+        Some(pid) => printed(alloc, pid.as_str())?,
+        None => String::new(alloc),
     };
     let pid = pid.as_str();
-    let _ = eprintln!(rt; "error: nothing in the bundle names the session {pid}");
-    ExitCode::from(4)
+    let line = format!(in alloc; "error: nothing in the bundle names the session {pid}")?;
+    Ok(Failure::Line(line, 4))
 }
 
-/// Says that the bundle doesn't have a record of the arguments.
-fn no_record(rt: &impl Eprint, alloc: Global, options: &ExplainOptions, number: usize) -> ExitCode {
+/// The bundle doesn't have a record of the arguments.
+fn no_record(
+    alloc: Global,
+    options: &ExplainOptions,
+    number: usize,
+) -> Result<Failure, AllocError> {
     let Some(named) = options.records.as_slice().get(number) else {
-        return fail(rt, RunFault::Memory);
+        return Ok(Failure::from(RunFault::Memory));
     };
-    let Ok(tap) = printed(alloc, named.tap.as_str()) else {
-        return fail(rt, RunFault::Memory);
-    };
+    let tap = printed(alloc, named.tap.as_str())?;
     let (number, tap) = (named.number, tap.as_str());
-    let _ = eprintln!(rt; "error: the bundle has no record {number} of a tap {tap}");
-    ExitCode::from(4)
+    let line = format!(in alloc; "error: the bundle has no record {number} of a tap {tap}")?;
+    Ok(Failure::Line(line, 4))
 }
 
 /// Says which sessions of the arguments `--only` leaves out.
-fn ended(rt: &impl Eprint, alloc: Global, ending: &Ending<'_>) -> ExitCode {
+fn ended(rt: &impl Eprint, alloc: Global, ending: &Ending<'_>) -> Result<ExitCode, Failure> {
     for pid in &ending.left_out {
-        let Ok(pid) = printed(alloc, pid) else {
-            return fail(rt, RunFault::Memory);
-        };
+        let pid = printed(alloc, pid)?;
         let pid = pid.as_str();
         let _ = eprintln!(rt; "sioaudit: --only leaves out the session {pid}");
     }
-    status_code(ending.status)
+    Ok(status_code(ending.status))
 }
 
 /// Explains what the arguments ask for, on the threads of `rt`.
@@ -226,28 +177,33 @@ pub fn explanation<H: Threads + Wait + Clock + Sync>(
     host: &HostRuntime,
     alloc: Global,
     words: &[&str],
-) -> ExitCode {
+) -> Result<ExitCode, Failure> {
     let options = match explain_asked(alloc, words) {
         Ok(options) => options,
         Err(_) => return refuse(host, alloc, words),
     };
-    let part = match part_of(host, alloc, &options.lines) {
-        Ok(part) => part,
-        Err(status) => return status,
+    let part = match &options.lines {
+        Some(name) => Some(lines_in(host, alloc, name.as_str())?),
+        None => None,
     };
-    let Ok(keys) = RandomState::new(host) else {
-        return fail(host, RunFault::Read);
-    };
-    let Ok(mut files) = files_of(host, alloc, &options) else {
-        return fail(host, RunFault::Memory);
-    };
+    let keys = keys_of(host)?;
+    let mut files = files_of(host, alloc, &options)?;
     let mut output = Watched::new(host.stdout());
-    let named = part.as_ref();
-    match explain(rt, alloc, keys, &mut files, &mut output, &options, named) {
+    match explain(
+        rt,
+        alloc,
+        keys,
+        &mut files,
+        &mut output,
+        &options,
+        part.as_ref(),
+    ) {
         Ok(ending) => ended(host, alloc, &ending),
-        Err(fault) => {
-            let os_error = output.os_error();
-            failed(host, alloc, &options, &part, &files, os_error, fault)
+        Err(ExplainFault::Write) => Err(Failure::Fault(RunFault::Write, output.os_error())),
+        Err(ExplainFault::Unexplained(why)) => {
+            Err(unexplained(host, alloc, &options, &files, why)?)
         }
+        Err(ExplainFault::NoRecord { number }) => Err(no_record(alloc, &options, number)?),
+        Err(ExplainFault::OtherPart) => Err(other_part(alloc, &options, part)?),
     }
 }

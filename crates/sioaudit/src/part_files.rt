@@ -1,12 +1,10 @@
 //! The folder that the parts are written to.
-use crate::{fail, fail_for};
+use crate::failure::{Failure, failed_at, refused_for};
 use aud_app::{RunFault, Watched};
 use aud_base::write_out;
-use aud_explanation::printed;
 use std::alloc::{AllocError, Global};
 use std::fs::{self, File};
 use std::io;
-use std::process::ExitCode;
 
 /// The name of the file that lists the sessions of each part, in the folder of the parts.
 pub const SESSIONS: &str = "sessions";
@@ -36,38 +34,6 @@ pub fn path_in(alloc: Global, folder: &str, name: &str) -> Result<String, AllocE
     format!(in alloc; "{folder}/{name}")
 }
 
-/// Says that a file could not be read or written, with the system's reason where there is one.
-pub fn failed_at(
-    rt: &impl Eprint,
-    alloc: Global,
-    fault: RunFault,
-    name: &str,
-    os_error: Option<i32>,
-) -> ExitCode {
-    let Ok(name) = printed(alloc, name) else {
-        return fail(rt, RunFault::Memory);
-    };
-    let name = name.as_str();
-    let _ = match os_error {
-        Some(number) => {
-            let reason = io::Error::from_raw_os_error(number);
-            eprintln!(rt; "sioaudit: {fault}: {name}: {reason}")
-        }
-        None => eprintln!(rt; "sioaudit: {fault}: {name}"),
-    };
-    ExitCode::from(3)
-}
-
-/// Says in these words why a file of the arguments is refused.
-pub fn refused_for(rt: &impl Eprint, alloc: Global, name: &str, words: &str) -> ExitCode {
-    let Ok(name) = printed(alloc, name) else {
-        return fail(rt, RunFault::Memory);
-    };
-    let name = name.as_str();
-    let _ = eprintln!(rt; "error: {name}: {words}");
-    ExitCode::from(4)
-}
-
 /// Whether the folder has the parts of a bundle, or some of them.
 fn has_parts(host: &HostRuntime, alloc: Global, folder: &str) -> io::Result<bool> {
     let path = path_in(alloc, folder, SESSIONS)?;
@@ -89,25 +55,22 @@ pub enum Folder {
     WasThere,
 }
 
-/// Makes the folder, or sees that the one that is there has no parts; says why it can't be used.
-pub fn prepare_folder(host: &HostRuntime, alloc: Global, folder: &str) -> Result<Folder, ExitCode> {
+/// Makes the folder, or sees that the one that is there has no parts; the failure is why it can't be used.
+pub fn prepare_folder(host: &HostRuntime, alloc: Global, folder: &str) -> Result<Folder, Failure> {
     match fs::create_dir(host, folder) {
         Ok(()) => return Ok(Folder::Made),
         Err(error) if error.kind() == io::ErrorKind::AlreadyExists => {}
-        Err(error) => {
-            let os_error = error.raw_os_error();
-            return Err(failed_at(host, alloc, RunFault::Write, folder, os_error));
-        }
+        Err(error) => return Err(unwritten_at(alloc, folder, error.raw_os_error())?),
     }
     match has_parts(host, alloc, folder) {
         Ok(false) => Ok(Folder::WasThere),
         Ok(true) => {
             let words = "the parts of a bundle are there already";
-            Err(refused_for(host, alloc, folder, words))
+            Err(refused_for(alloc, folder, words)?)
         }
         Err(error) => {
             let os_error = error.raw_os_error();
-            Err(failed_at(host, alloc, RunFault::Read, folder, os_error))
+            Err(failed_at(alloc, RunFault::Read, folder, os_error)?)
         }
     }
 }
@@ -119,14 +82,20 @@ pub fn give_back(host: &HostRuntime, folder: &str, was: Folder) {
     }
 }
 
+/// A file or a folder of this name could not be written, with the system's reason where there is one.
+pub fn unwritten_at(
+    alloc: Global,
+    name: &str,
+    os_error: Option<i32>,
+) -> Result<Failure, AllocError> {
+    failed_at(alloc, RunFault::Write, name, os_error)
+}
+
 /// Makes a file that is to be written.
-pub fn create(host: &HostRuntime, alloc: Global, path: &str) -> Result<Watched<File>, ExitCode> {
+pub fn create(host: &HostRuntime, alloc: Global, path: &str) -> Result<Watched<File>, Failure> {
     match fs::create(host, path) {
         Ok(file) => Ok(Watched::new(file)),
-        Err(error) => {
-            let os_error = error.raw_os_error();
-            Err(failed_at(host, alloc, RunFault::Write, path, os_error))
-        }
+        Err(error) => Err(unwritten_at(alloc, path, error.raw_os_error())?),
     }
 }
 
@@ -137,16 +106,13 @@ pub fn write_file(
     folder: &str,
     name: &str,
     text: &str,
-) -> Result<(), ExitCode> {
-    let Ok(path) = path_in(alloc, folder, name) else {
-        return Err(fail(host, RunFault::Memory));
-    };
+) -> Result<(), Failure> {
+    let path = path_in(alloc, folder, name)?;
     let mut file = create(host, alloc, path.as_str())?;
-    if write_out(&mut file, text.as_bytes()).is_err() {
-        let os_error = file.os_error();
-        return Err(failed_at(host, alloc, RunFault::Write, path.as_str(), os_error));
+    match write_out(&mut file, text.as_bytes()) {
+        Ok(()) => Ok(()),
+        Err(_) => Err(unwritten_at(alloc, path.as_str(), file.os_error())?),
     }
-    Ok(())
 }
 
 /// Writes the file that lists the sessions of each part: first under another name.
@@ -155,20 +121,13 @@ pub fn write_sessions(
     alloc: Global,
     folder: &str,
     text: &str,
-) -> Result<(), ExitCode> {
-    let (Ok(new), Ok(path)) = (
-        path_in(alloc, folder, NEW_SESSIONS),
-        path_in(alloc, folder, SESSIONS),
-    ) else {
-        return Err(fail(host, RunFault::Memory));
-    };
+) -> Result<(), Failure> {
+    let new = path_in(alloc, folder, NEW_SESSIONS)?;
+    let path = path_in(alloc, folder, SESSIONS)?;
     write_file(host, alloc, folder, NEW_SESSIONS, text)?;
     match fs::rename(host, new.as_str(), path.as_str()) {
         Ok(()) => Ok(()),
-        Err(error) => {
-            let os_error = error.raw_os_error();
-            Err(failed_at(host, alloc, RunFault::Write, path.as_str(), os_error))
-        }
+        Err(error) => Err(unwritten_at(alloc, path.as_str(), error.raw_os_error())?),
     }
 }
 
@@ -194,10 +153,10 @@ pub fn remove_split(host: &HostRuntime, alloc: Global, folder: &str, parts: usiz
 }
 
 /// Writes a text to standard output.
-pub fn write_text(host: &HostRuntime, text: &[u8]) -> Result<(), ExitCode> {
+pub fn write_text(host: &HostRuntime, text: &[u8]) -> Result<(), Failure> {
     let mut output = Watched::new(host.stdout());
     match write_out(&mut output, text) {
         Ok(()) => Ok(()),
-        Err(fault) => Err(fail_for(host, fault, output.os_error())),
+        Err(fault) => Err(Failure::Fault(fault, output.os_error())),
     }
 }

@@ -1,7 +1,7 @@
 //! The files of the parts, as `split` writes them.
-use crate::fail;
+use crate::failure::Failure;
 use crate::part_files::{
-    create, failed_at, lines_name, part_name, path_in, remove_split, write_file, write_sessions,
+    create, lines_name, part_name, path_in, remove_split, unwritten_at, write_file, write_sessions,
     write_text,
 };
 use crate::run_files::RunFiles;
@@ -11,7 +11,6 @@ use aud_input::{LineRuns, PartLines, Size};
 use aud_parts::{IndexedTaps, Plan, Planned, ServerText, SizedFault, lines_text};
 use aud_reader::ReadFault;
 use std::alloc::{AllocError, Global};
-use std::process::ExitCode;
 use std::thread::Threads;
 
 /// What is written, and into which folder.
@@ -30,18 +29,6 @@ pub struct Splitting<'a, H> {
 }
 
 impl<H: Threads + Sync> Splitting<'_, H> {
-    fn memory(&self) -> ExitCode {
-        fail(self.host, RunFault::Memory)
-    }
-
-    /// Says why a part has no lines.
-    fn unwritten(&self, fault: ReadFault) -> ExitCode {
-        match fault {
-            ReadFault::Memory => self.memory(),
-            ReadFault::Input(_, _) => unplanned(self.host, SizedFault::LineTooLong),
-        }
-    }
-
     /// Puts the line of a part, which is in the file of this name, at the end.
     fn push_line(
         &self,
@@ -66,10 +53,8 @@ impl<H: Threads + Sync> Splitting<'_, H> {
         name: &str,
         part: usize,
         servers: &ServerText,
-    ) -> Result<LineRuns, ExitCode> {
-        let Ok(path) = path_in(self.alloc, self.folder, name) else {
-            return Err(self.memory());
-        };
+    ) -> Result<LineRuns, Failure> {
+        let path = path_in(self.alloc, self.folder, name)?;
         let mut output = create(self.host, self.alloc, path.as_str())?;
         match self
             .planned
@@ -78,11 +63,9 @@ impl<H: Threads + Sync> Splitting<'_, H> {
             Ok(runs) => Ok(runs),
             Err(RunFault::Write) => {
                 files.clear();
-                let os_error = output.os_error();
-                let fault = RunFault::Write;
-                Err(failed_at(self.host, self.alloc, fault, path.as_str(), os_error))
+                Err(unwritten_at(self.alloc, path.as_str(), output.os_error())?)
             }
-            Err(fault) => Err(files.fault(fault)),
+            Err(fault) => Err(files.fault(fault)?),
         }
     }
 
@@ -93,20 +76,15 @@ impl<H: Threads + Sync> Splitting<'_, H> {
         part: usize,
         bytes: u64,
         runs: LineRuns,
-    ) -> Result<(), ExitCode> {
-        let Ok(files) = files.input_files() else {
-            return Err(self.memory());
-        };
+    ) -> Result<(), Failure> {
         let lines = runs.count();
         let named = PartLines {
             size: Size { lines, bytes },
             runs,
-            files,
+            files: files.input_files()?,
         };
-        let (Ok(name), Ok(text)) = (lines_name(self.alloc, part), lines_text(self.alloc, &named))
-        else {
-            return Err(self.memory());
-        };
+        let name = lines_name(self.alloc, part)?;
+        let text = lines_text(self.alloc, &named)?;
         write_file(
             self.host,
             self.alloc,
@@ -124,19 +102,15 @@ impl<H: Threads + Sync> Splitting<'_, H> {
         lines: &mut String,
         part: usize,
         servers: &ServerText,
-    ) -> Result<(), ExitCode> {
-        let Ok(name) = part_name(self.alloc, part) else {
-            return Err(self.memory());
-        };
+    ) -> Result<(), Failure> {
+        let name = part_name(self.alloc, part)?;
         let name = name.as_str();
         let runs = self.write_lines_of(files, name, part, servers)?;
         let bytes = self.planned.bytes(part, servers);
         files.clear();
         self.write_names(files, part, bytes, runs)?;
-        match self.push_line(lines, name, part, bytes) {
-            Ok(()) => Ok(()),
-            Err(_) => Err(self.memory()),
-        }
+        self.push_line(lines, name, part, bytes)?;
+        Ok(())
     }
 
     /// Writes these parts: what they have of the stream and of the nodes is made side by side.
@@ -145,31 +119,26 @@ impl<H: Threads + Sync> Splitting<'_, H> {
         files: &mut RunFiles<'_>,
         lines: &mut String,
         parts: &[usize],
-    ) -> Result<(), ExitCode> {
-        let Ok(made) = self
+    ) -> Result<(), Failure> {
+        let made = self
             .planned
-            .servers_of(self.rt, self.threads, self.indexed.lines, parts)
-        else {
-            return Err(self.memory());
-        };
+            .servers_of(self.rt, self.threads, self.indexed.lines, parts)?;
         for (part, servers) in parts.iter().zip(made) {
             match servers {
                 Ok(servers) => self.write_part(files, lines, *part, &servers)?,
-                Err(fault) => return Err(self.unwritten(fault)),
+                Err(ReadFault::Memory) => return Err(Failure::from(RunFault::Memory)),
+                Err(ReadFault::Input(_, _)) => {
+                    return Err(unplanned(self.alloc, SizedFault::LineTooLong)?);
+                }
             }
         }
         Ok(())
     }
 
     /// Writes the parts; gives their lines.
-    fn write_parts(&self, files: &mut RunFiles<'_>) -> Result<String, ExitCode> {
+    fn write_parts(&self, files: &mut RunFiles<'_>) -> Result<String, Failure> {
         let mut lines = String::new(self.alloc);
-        let mut parts = Vec::new(self.alloc);
-        for part in 0..self.plan.weights.len() {
-            if parts.push(part).is_err() {
-                return Err(self.memory());
-            }
-        }
+        let parts = (0..self.plan.weights.len()).collect::<Vec<usize>>(self.alloc)?;
         for some in parts.chunks(self.threads.max(1)) {
             self.write_some(files, &mut lines, some)?;
         }
@@ -177,19 +146,12 @@ impl<H: Threads + Sync> Splitting<'_, H> {
         Ok(lines)
     }
 
-    /// Puts how many parts and sessions there are at the end.
-    fn push_counts(&self, lines: &mut String) -> Result<(), AllocError> {
-        let parts = self.plan.weights.len();
-        let sessions = self.plan.sessions.len();
-        writeln!(lines, "parts={parts} sessions={sessions}")
-    }
-
-    /// Writes the parts, then which of them has which session, and then their lines.
-    fn write(&self, files: &mut RunFiles<'_>) -> Result<(), ExitCode> {
+    /// Writes the parts, then which of them has which session, and then their lines, and how many parts and sessions there
+    /// are.
+    fn write(&self, files: &mut RunFiles<'_>) -> Result<(), Failure> {
         let mut lines = self.write_parts(files)?;
-        let Ok(()) = self.push_counts(&mut lines) else {
-            return Err(self.memory());
-        };
+        let (parts, sessions) = (self.plan.weights.len(), self.plan.sessions.len());
+        writeln!(&mut lines, "parts={parts} sessions={sessions}")?;
         write_sessions(self.host, self.alloc, self.folder, self.sessions)?;
         write_text(self.host, lines.as_bytes())
     }
@@ -199,7 +161,7 @@ impl<H: Threads + Sync> Splitting<'_, H> {
 pub fn write_split<H: Threads + Sync>(
     splitting: &Splitting<'_, H>,
     files: &mut RunFiles<'_>,
-) -> Result<(), ExitCode> {
+) -> Result<(), Failure> {
     let outcome = splitting.write(files);
     if outcome.is_err() {
         let count = splitting.plan.weights.len();

@@ -1,12 +1,12 @@
 //! The commands that write a report on a bundle: all that read one, but `explain`.
+use crate::failure::{Failure, unread};
 use crate::progress::Progress;
 use crate::refusal::refuse;
-use crate::source::{Source, sources, unread};
-use crate::{fail, fail_for, status_code};
+use crate::source::{Source, keys_of, sources};
+use crate::status_code;
 use aud_app::{RunFault, Status, Watched, files, options, run};
 use aud_input::Sources;
-use std::alloc::Global;
-use std::hash::RandomState;
+use std::alloc::{AllocError, Global};
 use std::io::{IsTerminal, Stderr};
 use std::process::ExitCode;
 use std::sync::Wait;
@@ -15,11 +15,11 @@ use std::time::Clock;
 
 type Input<'a> = Watched<Progress<Stderr, Sources<Source<'a>>>>;
 
-/// Says which file could not be read.
-fn unread_of(rt: &impl Eprint, alloc: Global, input: Input<'_>) -> ExitCode {
+/// The file that could not be read.
+fn unread_of(alloc: Global, input: Input<'_>) -> Result<Failure, AllocError> {
     let os_error = input.os_error();
     let sources = input.into_inner().into_inner();
-    unread(rt, alloc, sources.current().name(), os_error)
+    unread(alloc, sources.current().name(), os_error)
 }
 
 /// Says where a yes for each session says nothing.
@@ -38,20 +38,14 @@ pub fn write_report<H: Threads + Wait + Clock + Sync>(
     host: &HostRuntime,
     alloc: Global,
     words: &[&str],
-) -> ExitCode {
+) -> Result<ExitCode, Failure> {
     let chosen = match options(alloc, words) {
         Ok(chosen) => chosen,
         Err(_) => return refuse(host, alloc, words),
     };
-    let Ok(named) = files(alloc, words) else {
-        return fail(host, RunFault::Memory);
-    };
-    let Ok(keys) = RandomState::new(host) else {
-        return fail(host, RunFault::Read);
-    };
-    let Ok(sources) = sources(host, alloc, named.names.as_slice(), named.quiet) else {
-        return fail(host, RunFault::Memory);
-    };
+    let named = files(alloc, words)?;
+    let keys = keys_of(host)?;
+    let sources = sources(host, alloc, named.names.as_slice(), named.quiet)?;
     let notes = host.stderr();
     let is_shown = !named.quiet && notes.is_terminal();
     let mut input = Watched::new(Progress::new(sources, notes, is_shown));
@@ -59,10 +53,10 @@ pub fn write_report<H: Threads + Wait + Clock + Sync>(
     match run(rt, alloc, keys, &mut input, &mut output, chosen) {
         Ok(status) => {
             note(host, status);
-            status_code(status)
+            Ok(status_code(status))
         }
-        Err(RunFault::Read) => unread_of(host, alloc, input),
-        Err(RunFault::Write) => fail_for(host, RunFault::Write, output.os_error()),
-        Err(fault) => fail(host, fault),
+        Err(RunFault::Read) => Err(unread_of(alloc, input)?),
+        Err(RunFault::Write) => Err(Failure::Fault(RunFault::Write, output.os_error())),
+        Err(fault) => Err(Failure::from(fault)),
     }
 }

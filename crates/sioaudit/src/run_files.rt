@@ -1,9 +1,7 @@
 //! The files of a bundle that are read more than once.
 ghost use Rattle.std.specs.Prelude.{◌≤◌, IfOk, length};
 
-use crate::fail;
-use crate::part_files::{failed_at, refused_for};
-use crate::source::unread;
+use crate::failure::{Failure, failed_at, refused_for, unread};
 use crate::tally::Tally;
 use aud_app::RunFault;
 use aud_input::InputFiles;
@@ -14,7 +12,6 @@ use std::fs::{self, File};
 use std::hash::RandomState;
 use std::io::{self, IsTerminal, Read, Stderr};
 use std::os::unix::fs::FileExt;
-use std::process::ExitCode;
 
 /// The most bytes that one read of the first pass is asked for.
 const PIECE: usize = 1_048_576;
@@ -83,36 +80,34 @@ impl<'a> RunFiles<'a> {
         self.tally.clear();
     }
 
-    /// Says why there is no split, after a read or an allocation that failed.
-    pub fn fault(&mut self, fault: RunFault) -> ExitCode {
+    /// Why there is no split, after a read or an allocation that failed.
+    pub fn fault(&mut self, fault: RunFault) -> Result<Failure, AllocError> {
         self.clear();
         match fault {
             RunFault::Read => {
                 let failed = self.failed;
                 let name = self.name(failed);
-                failed_at(self.host, self.alloc, fault, name, self.os_error)
+                failed_at(self.alloc, fault, name, self.os_error)
             }
-            RunFault::Memory | RunFault::Write | RunFault::Spawn => fail(self.host, fault),
+            RunFault::Memory | RunFault::Write | RunFault::Spawn => Ok(Failure::from(fault)),
         }
     }
 
-    /// Sees that each file can be read more than once, and named on a line; says which one can't.
-    pub fn check(&self) -> Result<(), ExitCode> {
+    /// Sees that each file can be read more than once, and named on a line; the failure is of the first that can't.
+    pub fn check(&self) -> Result<(), Failure> {
         for name in self.names {
             let name = name.as_str();
             if name.as_bytes().contains(&b'\n') {
                 let words = "has a newline in its name, so no line could name it";
-                return Err(refused_for(self.host, self.alloc, name, words));
+                return Err(refused_for(self.alloc, name, words)?);
             }
             match fs::metadata(self.host, name) {
                 Ok(metadata) if metadata.is_file() => {}
                 Ok(_) => {
                     let words = "is read more than once, so it has to be a file, and no pipe";
-                    return Err(refused_for(self.host, self.alloc, name, words));
+                    return Err(refused_for(self.alloc, name, words)?);
                 }
-                Err(error) => {
-                    return Err(unread(self.host, self.alloc, name, error.raw_os_error()));
-                }
+                Err(error) => return Err(unread(self.alloc, name, error.raw_os_error())?),
             }
         }
         Ok(())

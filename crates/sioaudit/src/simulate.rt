@@ -1,28 +1,20 @@
 //! The command `simulate`.
+use crate::failure::Failure;
 use crate::refusal::refuse;
-use crate::{fail, fail_for};
 use aud_app::{RunFault, Watched};
 use aud_base::write_out;
 use aud_schedule::{plan_asked, simulated};
 use aud_sim::SimFault;
-use std::alloc::Global;
+use std::alloc::{AllocError, Global};
 use std::io::Write;
 use std::process::ExitCode;
 
-/// Whether the arguments ask for a simulation.
-pub fn is_simulation(words: &[&str]) -> bool {
-    words.first().is_some_and(|word| *word == "simulate")
-}
-
-/// Says why there is no bundle.
-fn unsimulated(rt: &impl Eprint, fault: SimFault) -> ExitCode {
-    match fault {
-        SimFault::Memory => fail(rt, RunFault::Memory),
-        SimFault::Act(_) => {
-            let _ = eprintln!(rt; "sioaudit: {fault}");
-            ExitCode::from(3)
-        }
-    }
+/// Why there is no bundle.
+fn unsimulated(alloc: Global, fault: SimFault) -> Result<Failure, AllocError> {
+    Ok(match fault {
+        SimFault::Memory => Failure::from(RunFault::Memory),
+        SimFault::Act(_) => Failure::Line(format!(in alloc; "sioaudit: {fault}")?, 3),
+    })
 }
 
 /// Writes the bundle that the arguments ask for.
@@ -31,18 +23,18 @@ pub fn simulation<W: Write + Drop>(
     alloc: Global,
     words: &[&str],
     output: W,
-) -> ExitCode {
+) -> Result<ExitCode, Failure> {
     let plan = match plan_asked(alloc, words) {
         Ok(plan) => plan,
         Err(_) => return refuse(rt, alloc, words),
     };
     let bundle = match simulated(alloc, &plan) {
         Ok(bundle) => bundle,
-        Err(fault) => return unsimulated(rt, fault),
+        Err(fault) => return Err(unsimulated(alloc, fault)?),
     };
     let mut output = Watched::new(output);
     match write_out(&mut output, bundle.as_slice()) {
-        Ok(()) => ExitCode::SUCCESS,
-        Err(fault) => fail_for(rt, fault, output.os_error()),
+        Ok(()) => Ok(ExitCode::SUCCESS),
+        Err(fault) => Err(Failure::Fault(fault, output.os_error())),
     }
 }

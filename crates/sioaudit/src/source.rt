@@ -1,16 +1,15 @@
 //! A file of the bundle, which is opened when it is first read and closed at its end.
 ghost use Rattle.std.specs.Prelude.{None};
 
-use crate::part_files::failed_at;
-use crate::{fail_for, stdin};
+use crate::failure::{Failure, unread};
 use aud_base::{RunFault, Text};
 use aud_input::Sources;
 use aud_tap::Bytes;
 use std::alloc::{AllocError, Global};
 use std::collections::VecDeque;
 use std::fs::{self, File};
-use std::io::{self, Read, Stdin};
-use std::process::ExitCode;
+use std::hash::RandomState;
+use std::io::{self, IsTerminal, Read, Stdin};
 
 /// How far a source was read.
 #[derive(Drop)]
@@ -48,10 +47,17 @@ impl<'a> Source<'a> {
     }
 
     fn open(&self) -> io::Result<State> {
-        if self.name == "-" {
-            return Ok(State::Stdin(stdin(self.host, self.quiet)));
+        let host = self.host;
+        if self.name != "-" {
+            return Ok(State::File(fs::open(host, self.name)?));
         }
-        Ok(State::File(fs::open(self.host, self.name)?))
+        let input = host.stdin();
+        if !self.quiet && input.is_terminal() {
+            let _ = eprintln!(host;
+                "sioaudit: the bundle is read from the terminal; Ctrl-D ends it"
+            );
+        }
+        Ok(State::Stdin(input))
     }
 
     fn read_open(&mut self, buf: &mut [u8]) -> io::Result<usize>
@@ -80,6 +86,14 @@ impl Read for Source<'_> {
     }
 }
 
+/// The keys with which names are hashed: whoever picked the names of the input is not to know them.
+pub fn keys_of(host: &HostRuntime) -> Result<RandomState, RunFault> {
+    match RandomState::new(host) {
+        Ok(keys) => Ok(keys),
+        Err(_) => Err(RunFault::Read),
+    }
+}
+
 /// The first of these names, and the others; standard input where there is none.
 pub fn first_and_others(names: &[Text]) -> (&str, &[Text]) {
     match names.split_first() {
@@ -103,22 +117,12 @@ pub fn sources<'a>(
     Ok(Sources::new(Source::new(host, first, quiet), waiting))
 }
 
-/// Says which file could not be read, with the system's reason where there is one.
-pub fn unread(rt: &impl Eprint, alloc: Global, name: &str, os_error: Option<i32>) -> ExitCode {
-    let fault = RunFault::Read;
-    if name == "-" {
-        fail_for(rt, fault, os_error)
-    } else {
-        failed_at(rt, alloc, fault, name, os_error)
-    }
-}
-
 /// The bytes of the file of this name, or of standard input for `-`.
-pub fn bytes_in(host: &HostRuntime, alloc: Global, name: &str) -> Result<Bytes, ExitCode> {
+pub fn bytes_in(host: &HostRuntime, alloc: Global, name: &str) -> Result<Bytes, Failure> {
     let mut bytes = Vec::new(alloc);
     let mut source = Source::new(host, name, true);
     match source.read_to_end(&mut bytes) {
         Ok(_) => Ok(Bytes::new(bytes)),
-        Err(error) => Err(unread(host, alloc, name, error.raw_os_error())),
+        Err(error) => Err(unread(alloc, name, error.raw_os_error())?),
     }
 }

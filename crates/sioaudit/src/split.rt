@@ -3,11 +3,12 @@ ghost use Rattle.std.specs.Prelude.{◌≡◌, ◌<◌, length, IfOk};
 ghost use Rattle.std.specs.List.{All};
 ghost use Rattle.aud_parts.specs.Plan.{IsClosed};
 
-use crate::fail;
+use crate::failure::Failure;
 use crate::part_files::{give_back, prepare_folder, write_text};
 use crate::part_writing::{Splitting, write_split};
 use crate::refusal::refuse;
 use crate::run_files::RunFiles;
+use crate::source::keys_of;
 use aud_app::RunFault;
 use aud_cli::{PartsWanted, SplitOptions, split_asked};
 use aud_node::Logs;
@@ -23,31 +24,20 @@ use std::mem::ManuallyDrop;
 use std::process::ExitCode;
 use std::thread::Threads;
 
-/// Whether the arguments ask for a split.
-pub fn is_split(words: &[&str]) -> bool {
-    words.first().is_some_and(|word| *word == "split")
+/// Writes which line of the input is refused.
+fn refused(host: &HostRuntime, alloc: Global, line: RefusedLine) -> Result<Failure, Failure> {
+    let (number, name) = (line.number, line.code.name());
+    let text = format!(in alloc; "line {number}: {name}\n")?;
+    write_text(host, text.as_bytes())?;
+    Ok(Failure::Said(2))
 }
 
-/// Says which line of the input is refused.
-fn refused(host: &HostRuntime, alloc: Global, line: RefusedLine) -> ExitCode {
-    let number = line.number;
-    let name = line.code.name();
-    let Ok(text) = format!(in alloc; "line {number}: {name}\n") else {
-        return fail(host, RunFault::Memory);
-    };
-    match write_text(host, text.as_bytes()) {
-        Ok(()) => ExitCode::from(2),
-        Err(status) => status,
-    }
-}
-
-/// Says why no such parts can be made.
-pub fn unplanned(host: &HostRuntime, fault: SizedFault) -> ExitCode {
+/// Why no such parts can be made.
+pub fn unplanned(alloc: Global, fault: SizedFault) -> Result<Failure, AllocError> {
     if let SizedFault::Plan(PlanFault::Memory) = &fault {
-        return fail(host, RunFault::Memory);
+        return Ok(Failure::from(RunFault::Memory));
     }
-    let _ = eprintln!(host; "error: {fault}");
-    ExitCode::from(4)
+    Ok(Failure::Line(format!(in alloc; "error: {fault}")?, 4))
 }
 
 /// The refusal that the index tells, if it does.
@@ -99,12 +89,10 @@ fn split_plan<H: Threads + Sync>(
     logs: &Logs<'_>,
     clients: &[MeasuredClient],
     plan: &Plan,
-) -> Result<(), ExitCode>
+) -> Result<(), Failure>
     requires { IsClosed logs.now.taps clients.now plan.now }
 {
-    let Ok(sessions) = sessions_of(alloc, plan) else {
-        return Err(fail(host, RunFault::Memory));
-    };
+    let sessions = sessions_of(alloc, plan)?;
     let splitting = Splitting {
         rt,
         host,
@@ -129,12 +117,12 @@ fn split_logs<H: Threads + Sync>(
     indexed: &IndexedTaps<'_>,
     logs: &Logs<'_>,
     clients: &[MeasuredClient],
-) -> Result<(), ExitCode> {
+) -> Result<(), Failure> {
     match plan_of(alloc, logs, clients, options.parts) {
         Ok(plan) => split_plan(
             rt, host, alloc, options, files, indexed, logs, clients, &plan,
         ),
-        Err(fault) => Err(unplanned(host, fault)),
+        Err(fault) => Err(unplanned(alloc, fault)?),
     }
 }
 
@@ -168,7 +156,7 @@ fn split_servers<'x, H: Threads + Sync>(
     index: &'x TapIndex,
     servers: &'x Servers,
     refusal: FirstRefusal,
-) -> Result<(), ExitCode> {
+) -> Result<(), Failure> {
     let threads = usize::from(options.workers);
     let mut refusal = refusal;
     let indexed = IndexedTaps {
@@ -176,20 +164,18 @@ fn split_servers<'x, H: Threads + Sync>(
         kinds: servers.kinds.as_slice(),
         lines: servers.lines.as_slice(),
     };
-    let Ok(logs) = Logs::build_in_threads(rt, alloc, keys, threads, &servers.taps) else {
-        return Err(fail(host, RunFault::Memory));
-    };
+    let logs = Logs::build_in_threads(rt, alloc, keys, threads, &servers.taps)?;
     let logs = ManuallyDrop::new(logs);
     let read = match clients_of(rt, alloc, keys, threads, files, index, servers, &logs) {
         Ok(read) => read,
-        Err(fault) => return Err(files.fault(fault)),
+        Err(fault) => return Err(files.fault(fault)?),
     };
     files.clear();
     if let Some(line) = read.refused {
         refusal.add(line.number, line.code);
     }
     if let Some(line) = refusal.line() {
-        return Err(refused(host, alloc, line));
+        return Err(refused(host, alloc, line)?);
     }
     split_logs(
         rt,
@@ -210,18 +196,16 @@ fn split_files<H: Threads + Sync>(
     alloc: Global,
     options: &SplitOptions,
     files: &mut RunFiles<'_>,
-) -> Result<(), ExitCode> {
-    let Ok(keys) = RandomState::new(host) else {
-        return Err(fail(host, RunFault::Read));
-    };
+) -> Result<(), Failure> {
+    let keys = keys_of(host)?;
     let index = match files.index(keys) {
         Ok(index) => index,
-        Err(fault) => return Err(files.fault(fault)),
+        Err(fault) => return Err(files.fault(fault)?),
     };
     let mut refusal = refusal_of(&index);
     let servers = match read_servers(alloc, keys, files, index.taps(), &mut refusal) {
         Ok(servers) => ManuallyDrop::new(servers),
-        Err(fault) => return Err(files.fault(fault)),
+        Err(fault) => return Err(files.fault(fault)?),
     };
     split_servers(
         rt, host, alloc, keys, options, files, &index, &servers, refusal,
@@ -234,7 +218,7 @@ fn split<H: Threads + Sync>(
     host: &HostRuntime,
     alloc: Global,
     options: &SplitOptions,
-) -> Result<(), ExitCode> {
+) -> Result<(), Failure> {
     let mut files = RunFiles::new(host, alloc, options.files.as_slice(), options.quiet);
     files.check()?;
     let folder = options.into.as_str();
@@ -252,13 +236,12 @@ pub fn splitting<H: Threads + Sync>(
     host: &HostRuntime,
     alloc: Global,
     words: &[&str],
-) -> ExitCode {
-    let options = match split_asked(alloc, words) {
-        Ok(options) => options,
-        Err(_) => return refuse(host, alloc, words),
-    };
-    match split(rt, host, alloc, &options) {
-        Ok(()) => ExitCode::SUCCESS,
-        Err(status) => status,
+) -> Result<ExitCode, Failure> {
+    match split_asked(alloc, words) {
+        Ok(options) => {
+            split(rt, host, alloc, &options)?;
+            Ok(ExitCode::SUCCESS)
+        }
+        Err(_) => refuse(host, alloc, words),
     }
 }
