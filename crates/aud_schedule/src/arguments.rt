@@ -53,72 +53,44 @@ const FAULTS: [&str; 15] = [
 
 const NO_ROOM: &str = "a fault takes 32 acts or more, and the fault lag 2 nodes or more";
 
-/// An option that takes a value.
+/// An option that takes a value, which is this where it is left out.
 fn option<'a>(
     alloc: Global,
     name: &'a str,
     value: &'a str,
     help: &'a str,
     parser: ValueParser<'a>,
+    default: &'a str,
 ) -> Arg<'a> {
     Arg::new(alloc, name)
         .long(name)
         .value_name(value)
         .help(help)
         .value_parser(parser)
-}
-
-/// The command, with the options for the size of the cluster.
-fn sized<'a>(alloc: Global) -> Result<Command<'a>, AllocError> {
-    let nodes = option(
-        alloc,
-        "nodes",
-        "N",
-        "Nodes of the cluster, 1 to 64",
-        value_parser!(u8).range(1..65),
-    )
-    .default_value("2");
-    let clients = option(
-        alloc,
-        "clients",
-        "C",
-        "Clients, 1 to 4096",
-        value_parser!(u16).range(1..4097),
-    )
-    .default_value("4");
-    Command::new(alloc, "simulate")
-        .about(ABOUT)
-        .after_help(LINES)
-        .arg(nodes)?
-        .arg(clients)
+        .default_value(default)
 }
 
 /// The command and its options.
 fn simulate<'a>(alloc: Global) -> Result<Command<'a>, AllocError> {
-    let acts = option(
-        alloc,
-        "acts",
-        "K",
-        "Acts of the schedule, at most 1000000",
-        value_parser!(u32).range(0..1_000_001),
-    )
-    .default_value("200");
-    let seed = option(
-        alloc,
-        "seed",
-        "S",
-        "What the schedule is chosen by",
-        value_parser!(u64),
-    )
-    .default_value("1");
-    let fault = option(
-        alloc,
-        "fault",
-        "FAULT",
-        "What goes wrong once",
-        ValueParser::Names(&FAULTS),
-    );
-    sized(alloc)?.arg(acts)?.arg(seed)?.arg(fault)
+    let nodes = value_parser!(u8).range(1..65);
+    let clients = value_parser!(u16).range(1..4097);
+    let acts = value_parser!(u32).range(0..1_000_001);
+    let fault = Arg::new(alloc, "fault")
+        .long("fault")
+        .value_name("FAULT")
+        .help("What goes wrong once")
+        .value_parser(ValueParser::Names(&FAULTS));
+    let of_nodes = "Nodes of the cluster, 1 to 64";
+    let of_acts = "Acts of the schedule, at most 1000000";
+    let of_seed = "What the schedule is chosen by";
+    Command::new(alloc, "simulate")
+        .about(ABOUT)
+        .after_help(LINES)
+        .arg(option(alloc, "nodes", "N", of_nodes, nodes, "2"))?
+        .arg(option(alloc, "clients", "C", "Clients, 1 to 4096", clients, "4"))?
+        .arg(option(alloc, "acts", "K", of_acts, acts, "200"))?
+        .arg(option(alloc, "seed", "S", of_seed, value_parser!(u64), "1"))?
+        .arg(fault)
 }
 
 /// The parser of the arguments.
@@ -169,11 +141,6 @@ fn plan_of(matches: &ArgMatches<'_>) -> Option<Plan>
     if plan.is_possible() { Some(plan) } else { None }
 }
 
-/// The error on arguments that the parser lets pass, and that no schedule can be made for.
-fn no_room(alloc: Global) -> Result<Error, AllocError> {
-    command(alloc)?.error(ErrorKind::ValueValidation, NO_ROOM)
-}
-
 /// What the arguments after the program's name ask for, of which the first is `simulate`: the plan keeps to the limits
 /// of a cluster, and has room for its fault. The error has the text to print: help that was asked for, or why the
 /// arguments are refused; where memory ran out its kind is `OutOfMemory`.
@@ -187,6 +154,6 @@ pub fn plan_asked<'a>(alloc: Global, words: &'a [&'a str]) -> Result<Plan, Error
     };
     match plan {
         Some(plan) => Ok(plan),
-        None => Err(no_room(alloc)?),
+        None => Err(command(alloc)?.error(ErrorKind::ValueValidation, NO_ROOM)?),
     }
 }

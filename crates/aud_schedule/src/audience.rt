@@ -45,17 +45,6 @@ pub const ALL: Audience = Audience {
     except_session: 0,
 };
 
-impl Session {
-    /// A node takes an entry for these.
-    pub fn receive(&mut self, node: usize, audience: &Audience) {
-        if let Place::On(own) = self.place {
-            if own == node && audience.has(self) {
-                self.has_offset = true;
-            }
-        }
-    }
-}
-
 impl Audience {
     /// Whether a session is among them.
     pub fn has(&self, session: &Session) -> bool {

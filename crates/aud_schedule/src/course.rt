@@ -11,7 +11,7 @@ use std::alloc::{AllocError, Global};
 pub const MOST_LAG: usize = 8;
 
 /// How many sessions may be opened, but for one, which is left for a fault.
-const MOST_SESSIONS: u32 = 65_535;
+pub const MOST_SESSIONS: u32 = 65_535;
 
 /// How many nodes and clients a cluster has.
 #[derive(Clone, Copy, Drop)]
@@ -29,7 +29,8 @@ pub struct Course {
     entries: Vec<Audience>,
     cursors: Vec<usize>,
     sessions: Vec<Option<Session>>,
-    opened: u32,
+    /// How many sessions were opened.
+    pub opened: u32,
     ghost cluster: { IsCluster size },
     ghost cursors_of_nodes: { vec_len cursors ≡ size.nodes },
 }
@@ -73,14 +74,6 @@ impl Course {
         ensures number { result < bound }
     {
         self.word() % bound
-    }
-
-    /// Whether one of so many cases comes.
-    pub fn is_one_in(&mut self, cases: u32) -> bool
-        requires { 0 < cases }
-        ensures { self.new.size ≡ self.old.size }
-    {
-        self.below(cases) == 0
     }
 
     /// One of the nodes.
@@ -135,11 +128,6 @@ impl Course {
             .all(|cursor| entries < cursor.saturating_add(MOST_LAG))
     }
 
-    /// Whether another session may be opened.
-    pub fn may_open(&self) -> bool {
-        self.opened < MOST_SESSIONS
-    }
-
     /// The node that lags most, and of several the first.
     pub fn slowest(&self) -> usize
         ensures { IsUpTo self.now.size.nodes result }
@@ -172,7 +160,7 @@ impl Course {
     }
 
     /// The client has this session from now on.
-    fn set_session(&mut self, client: usize, session: Option<Session>)
+    pub fn set_session(&mut self, client: usize, session: Option<Session>)
         ensures { self.new.size ≡ self.old.size }
     {
         if let Some(index) = client.checked_sub(1)
@@ -204,8 +192,12 @@ impl Course {
             *slot = cursor.saturating_add(1);
         }
         for slot in &mut self.sessions {
-            if let Some(session) = slot {
-                session.receive(node, &audience);
+            if let Some(session) = slot
+                && let Place::On(own) = session.place
+                && own == node
+                && audience.has(session)
+            {
+                session.has_offset = true;
             }
         }
     }
@@ -224,21 +216,13 @@ impl Course {
         self.set_session(client, Some(session));
     }
 
-    /// The client's session holds these rooms from now on.
-    pub fn hold(&mut self, client: usize, rooms: u8)
-        ensures { self.new.size ≡ self.old.size }
-    {
-        if let Some(session) = self.session(client) {
-            self.set_session(client, Some(Session { rooms, ..session }));
-        }
-    }
-
     /// The client's session holds these rooms too from now on.
     pub fn hold_more(&mut self, client: usize, rooms: u8)
         ensures { self.new.size ≡ self.old.size }
     {
         if let Some(session) = self.session(client) {
-            self.hold(client, session.rooms | rooms);
+            let rooms = session.rooms | rooms;
+            self.set_session(client, Some(Session { rooms, ..session }));
         }
     }
 
@@ -249,12 +233,5 @@ impl Course {
         if let Some(session) = self.session(client) {
             self.set_session(client, Some(Session { place, ..session }));
         }
-    }
-
-    /// The client's session is over.
-    pub fn finish(&mut self, client: usize)
-        ensures { self.new.size ≡ self.old.size }
-    {
-        self.set_session(client, None);
     }
 }

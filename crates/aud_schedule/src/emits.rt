@@ -10,17 +10,12 @@ use std::alloc::{AllocError, Global};
 
 const WORDS: [&str; 6] = ["hi", "ho", "tick", "offer", "move", "note"];
 
-/// A copy of the text.
-pub fn text(alloc: Global, text: &str) -> Result<Text, AllocError> {
-    Text::new(alloc, text)
-}
-
 /// The word of an event.
 pub fn word(course: &mut Course) -> Result<Text, AllocError>
     ensures { course.new.size ≡ course.old.size }
 {
     let index = course.below(6) as usize;
-    text(course.alloc, WORDS[index])
+    Text::new(course.alloc, WORDS[index])
 }
 
 /// The names of these rooms, and of the room of the session with this number, unless it is 0.
@@ -28,20 +23,21 @@ fn names(alloc: Global, rooms: u8, session: u32) -> Result<Texts, AllocError> {
     let mut names = Vec::new(alloc);
     for (bit, room) in ROOMS.iter().enumerate() {
         if rooms >> bit & 1 != 0 {
-            names.push(text(alloc, room)?)?;
+            names.push(Text::new(alloc, room)?)?;
         }
     }
     if session != 0 {
         let room = format!(in alloc; "s{session}")?;
-        names.push(text(alloc, room.as_str())?)?;
+        names.push(Text::new(alloc, room.as_str())?)?;
     }
     Ok(Texts::new(names))
 }
 
-/// So many attachments.
-fn blobs(course: &mut Course, count: u32) -> Result<Blobs, AllocError>
+/// One attachment, or two.
+fn some_attachments(course: &mut Course) -> Result<Blobs, AllocError>
     ensures { course.new.size ≡ course.old.size }
 {
+    let count = course.below(2) + 1;
     let mut blobs = Vec::new(course.alloc);
     for _ in 0..count {
         let bytes = course.word().to_le_bytes();
@@ -50,23 +46,14 @@ fn blobs(course: &mut Course, count: u32) -> Result<Blobs, AllocError>
     Ok(Blobs::new(blobs))
 }
 
-/// One attachment, or two.
-fn some_attachments(course: &mut Course) -> Result<Blobs, AllocError>
-    ensures { course.new.size ≡ course.old.size }
-{
-    let count = course.below(2) + 1;
-    blobs(course, count)
-}
-
 /// The attachments of an event: mostly none, else one or two.
 fn attachments(course: &mut Course) -> Result<Blobs, AllocError>
     ensures { course.new.size ≡ course.old.size }
 {
-    if course.is_one_in(8) {
-        some_attachments(course)
-    } else {
-        blobs(course, 0)
+    if course.below(8) == 0 {
+        return some_attachments(course);
     }
+    Ok(Blobs::new(Vec::new(course.alloc)))
 }
 
 /// The set of one of the rooms.

@@ -8,9 +8,10 @@ ghost use Rattle.aud_schedule.specs.Private.Grown.{is_settled, Grown};
 
 use crate::audience::{ALL, Audience, Place, ROOMS};
 use crate::course::Course;
-use crate::emits::{emit, emit_binary, text};
+use crate::emits::{emit, emit_binary};
 use crate::plan::Fault;
 use aud_sim::Act;
+use aud_tap::Text;
 use std::alloc::AllocError;
 
 /// Puts an act at the end.
@@ -82,7 +83,7 @@ fn disconnect(course: &mut Course, acts: &mut Vec<Act>, client: usize) -> Result
     ensures acts { OnOk result (Grown course.old.size 1 [] acts.old.items acts.new.items) }
 {
     if course.node_of(client).is_some() {
-        course.finish(client);
+        course.set_session(client, None);
         add(acts, Act::Finish { client })?;
     }
     Ok(())
@@ -232,7 +233,7 @@ fn leave_unanswered(
     let node = course.some_node();
     course.connect(client, node);
     add(acts, Act::ConnectUnanswered { client, node })?;
-    course.finish(client);
+    course.set_session(client, None);
     add(acts, Act::Finish { client })?;
     Ok(())
 }
@@ -289,9 +290,9 @@ fn lose_room(course: &mut Course, acts: &mut Vec<Act>, client: usize) -> Result<
 {
     let alloc = course.alloc;
     let index = course.below(4);
-    let room = text(alloc, ROOMS[index as usize])?;
+    let room = Text::new(alloc, ROOMS[index as usize])?;
     add(acts, Act::Leave { client, room })?;
-    let room = text(alloc, ROOMS[index as usize])?;
+    let room = Text::new(alloc, ROOMS[index as usize])?;
     add_two(acts, Act::LoseLine, Act::Join { client, room })?;
     let rooms = 1u8 << index;
     course.hold_more(client, rooms);

@@ -27,7 +27,6 @@
 
 mod arguments;
 mod audience;
-mod bundle;
 mod course;
 mod emits;
 mod faults;
@@ -36,6 +35,5 @@ mod quiet;
 mod scheduling;
 
 pub use arguments::plan_asked;
-pub use bundle::simulated;
 pub use plan::{Fault, Plan};
-pub use scheduling::schedule;
+pub use scheduling::{schedule, simulated};

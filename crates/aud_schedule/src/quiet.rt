@@ -4,9 +4,10 @@ ghost use Rattle.aud_schedule.specs.Size.{IsUpTo};
 ghost use Rattle.aud_schedule.specs.Acts.{IsQuiet};
 
 use crate::audience::{Place, ROOMS, Session};
-use crate::course::Course;
-use crate::emits::{emit, some_audience, text, word};
+use crate::course::{Course, MOST_SESSIONS};
+use crate::emits::{emit, some_audience, word};
 use aud_sim::Act;
+use aud_tap::Text;
 use std::alloc::AllocError;
 
 /// An event comes, or, where a node lags too far for that, that node takes an entry.
@@ -43,7 +44,7 @@ fn connect(course: &mut Course, client: usize) -> Result<Act, AllocError>
     ensures size { course.new.size ≡ course.old.size }
     ensures act { IfOk result (IsQuiet course.old.size) }
 {
-    if !course.may_open() {
+    if course.opened >= MOST_SESSIONS {
         return emit_or_catch_up(course);
     }
     let node = course.some_node();
@@ -58,13 +59,15 @@ fn join_or_leave(course: &mut Course, client: usize, session: Session) -> Result
     ensures act { IfOk result (IsQuiet course.old.size) }
 {
     let index = course.below(4);
-    let room = text(course.alloc, ROOMS[index as usize])?;
+    let room = Text::new(course.alloc, ROOMS[index as usize])?;
     let bit = 1u8 << index;
-    if course.is_one_in(4) {
-        course.hold(client, session.rooms & !bit);
+    if course.below(4) == 0 {
+        let rooms = session.rooms & !bit;
+        course.set_session(client, Some(Session { rooms, ..session }));
         Ok(Act::Leave { client, room })
     } else {
-        course.hold(client, session.rooms | bit);
+        let rooms = session.rooms | bit;
+        course.set_session(client, Some(Session { rooms, ..session }));
         Ok(Act::Join { client, room })
     }
 }
@@ -82,12 +85,12 @@ fn connected(
 {
     match course.below(10) {
         0 => {
-            course.finish(client);
+            course.set_session(client, None);
             Ok(Act::Finish { client })
         }
         1..=3 => {
-            let cursor = course.cursor(node);
-            course.move_to(client, Place::Away(cursor));
+            let place = Place::Away(course.cursor(node));
+            course.set_session(client, Some(Session { place, ..session }));
             Ok(Act::Cut { client })
         }
         4 => {
@@ -112,28 +115,14 @@ fn cut_off(
 {
     let node = course.some_node();
     if session.has_offset && cursor <= course.cursor(node) {
-        course.move_to(client, Place::On(node));
+        let place = Place::On(node);
+        course.set_session(client, Some(Session { place, ..session }));
         return Ok(Act::Recover { client, node });
     }
-    if !session.has_offset || course.is_one_in(8) {
+    if !session.has_offset || course.below(8) == 0 {
         return connect(course, client);
     }
     take(course)
-}
-
-/// What a client does.
-fn client_act(course: &mut Course) -> Result<Act, AllocError>
-    ensures size { course.new.size ≡ course.old.size }
-    ensures act { IfOk result (IsQuiet course.old.size) }
-{
-    let client = course.some_client();
-    let Some(session) = course.session(client) else {
-        return connect(course, client);
-    };
-    match session.place {
-        Place::On(node) => connected(course, client, session, node),
-        Place::Away(cursor) => cut_off(course, client, session, cursor),
-    }
 }
 
 /// An act that is no fault: of 20, mostly 5 are events, 8 are takes, and 7 are those of clients.
@@ -144,6 +133,15 @@ pub fn quiet_act(course: &mut Course) -> Result<Act, AllocError>
     match course.below(20) {
         0..=4 => emit_or_catch_up(course),
         5..=12 => take(course),
-        _ => client_act(course),
+        _ => {
+            let client = course.some_client();
+            let Some(session) = course.session(client) else {
+                return connect(course, client);
+            };
+            match session.place {
+                Place::On(node) => connected(course, client, session, node),
+                Place::Away(cursor) => cut_off(course, client, session, cursor),
+            }
+        }
     }
 }

@@ -1,8 +1,9 @@
-//! The schedule of a plan.
+//! The schedule of a plan, and the bundle of it.
 ghost use Rattle.std.specs.Prelude.{◌≡◌, ◌≤◌, [], ◌∷◌, Some, length, map, IfOk, OnOk, option_to_list};
 ghost use Rattle.std.specs.List.{All};
 ghost use Rattle.aud_schedule.specs.declared.plan.Fault.TheVariants as brought;
 ghost use Rattle.aud_schedule.specs.Acts.{faults, kind_of, IsWithin};
+ghost use Rattle.aud_schedule.specs.Bundles.{IsSimulationOf};
 ghost use Rattle.aud_schedule.specs.Plans.{IsPossible, least_acts, least_nodes};
 ghost use Rattle.aud_schedule.specs.Private.Grown.{Grown};
 
@@ -10,7 +11,7 @@ use crate::course::{Course, Size};
 use crate::faults::{add, inject};
 use crate::plan::{FAULT_ACTS, Fault, Plan};
 use crate::quiet::quiet_act;
-use aud_sim::Act;
+use aud_sim::{Act, SimFault, simulate};
 use std::alloc::{AllocError, Global};
 
 /// Acts that are no faults, until there are so many acts.
@@ -90,4 +91,19 @@ pub fn schedule(alloc: Global, plan: &Plan) -> Result<Vec<Act>, AllocError>
     begin(&mut course, &mut acts, plan.fault, plan.acts)?;
     fill(&mut course, &mut acts, plan.acts as usize)?;
     Ok(acts)
+}
+
+/// The bundle of a cluster that runs the plan's schedule. `SimFault::Act` is not expected, since a schedule's acts are
+/// possible where they stand.
+pub fn simulated(alloc: Global, plan: &Plan) -> Result<Vec<u8>, SimFault>
+    requires { IsPossible plan.now }
+    ensures { IsSimulationOf plan.now result }
+{
+    let acts = schedule(alloc, plan)?;
+    simulate(
+        alloc,
+        plan.nodes as usize,
+        plan.clients as usize,
+        acts.as_slice(),
+    )
 }

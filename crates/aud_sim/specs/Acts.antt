@@ -1,10 +1,10 @@
 -- What an act does to the state, act by act. Nodes and clients are numbered from 1, their indices from 0.
 use Rattle.std.specs.Prelude.{ℕ, ◌+◌, ◌-◌, List, [], ◌∷◌, ◌++◌, length, Option, Some, option_map, slice_get, slice_set}
 use Rattle.std.specs.Option.{option_map_or}
-use Rattle.aud_tap.specs.RecordFields.{offset_of}
 use Rattle.aud_tap.specs.declared.records.ClientRec.TheVariants.{TextIn}
 use Rattle.aud_tap.specs.declared.records.NodeRec.TheVariants as node
 use Rattle.aud_tap.specs.declared.records.Rec.TheVariants as rec
+use Rattle.aud_tap.specs.declared.records.StreamRec.TheVariants.{Ev}
 use Rattle.aud_sim.specs.declared.act.Act.{Act}
 use Rattle.aud_sim.specs.declared.act.Act.TheVariants.{Emit, Volatile, Take, Connect, ConnectUnanswered, ConnectMisnamed, Join, Leave, Cut, Recover, RecoverLagging, RecoverUnknown, RecoverUnanswered, Finish, DropNext, DoubleNext, HoldNext, AlterNext, GarbleNext, ShortenNext, LoseLine, RepeatLine}
 use Rattle.aud_sim.specs.declared.bundle.LogFault.{LogFault}
@@ -25,49 +25,34 @@ use Rattle.aud_sim.specs.Clients.{next_number}
 use Rattle.aud_sim.specs.Cluster.{State}
 use Rattle.aud_sim.specs.Delivery.{Sent, replayed, sent_to_guests}
 use Rattle.aud_sim.specs.Entries.{entry_of}
-use Rattle.aud_sim.specs.Nodes.{NodeState, host, with_guest, nodes_left}
+use Rattle.aud_sim.specs.Nodes.{NodeState, host, node_joined, nodes_left}
 use Rattle.aud_sim.specs.Sessions.{with_opened, with_connection, with_reply, with_asking, with_left, with_change, first_session, session_joined, session_parted, session_back, client_cut, client_finished}
 use Rattle.aud_sim.specs.Texts.{stream_name, message, volatile_text}
 
 -- ---- the stream
 
--- the entry is the stream's last
-abbrev pub with_entry : Entry → State → State
-with_entry entry s = record s {
-  lines = with_line stream_name (rec.Stream entry.event) s.lines;
-  entries = s.entries ++ entry ∷ [];
-}
-
 -- an event is put into the stream, at the position after the last
 abbrev pub emitted : List (List ℕ) → List (List ℕ) → List ℕ → List (List ℕ) → State → State
-emitted rooms except word bin s = with_entry (entry_of rooms except word bin (length s.entries + 1)) s
+emitted rooms except word bin s =
+    let entry = entry_of rooms except word bin (length s.entries + 1) in
+    record s { lines = with_line stream_name (rec.Stream (Ev entry.event)) s.lines; entries = s.entries ++ entry ∷ [] }
 
--- the node takes the entry
-abbrev pub node_took : NodeState → NodeState
-node_took n = record n { cursor = n.cursor + 1 }
-
--- the lines where it takes its next entry, if there is one
+-- the lines where a node takes its next entry, if there is one
 abbrev pub lines_taken : List Entry → NodeState → Lines → Lines
-lines_taken entries n lines = option_map_or (λ (entry : Entry). with_line n.name (rec.Node (node.Take (offset_of entry.event))) lines) (slice_get entries n.cursor) lines
+lines_taken entries n lines = option_map_or (λ (entry : Entry). with_line n.name (rec.Node (node.Take entry.event.off)) lines) (slice_get entries n.cursor) lines
 
 -- the node then
 abbrev pub node_taken : List Entry → NodeState → NodeState
-node_taken entries n = option_map_or (λ (entry : Entry). node_took n) (slice_get entries n.cursor) n
+node_taken entries n = option_map_or (λ (entry : Entry). record n { cursor = n.cursor + 1 }) (slice_get entries n.cursor) n
 
--- the node with an index takes its next entry, if there is one
+-- the node with an index, if there is one, takes its next entry, and sends the entry at its cursor
 abbrev pub taken : ℕ → State → State
 taken index s = option_map_or
-    (λ n. record s { lines = lines_taken s.entries n s.lines; nodes = slice_set s.nodes index (node_taken s.entries n) })
+    (λ n.
+    let n' = node_taken s.entries n in
+    let all = sent_to_guests s.entries n'.cursor n'.guests (record { lines = lines_taken s.entries n s.lines; clients = s.clients }) in
+    record s { lines = all.lines; nodes = slice_set s.nodes index n'; clients = all.clients })
     (slice_get s.nodes index) s
-
--- the node with an index sends the entry at its cursor
-abbrev pub sent_by : NodeState → State → State
-sent_by n s =
-    let all = sent_to_guests s.entries n.cursor n.guests (record { lines = s.lines; clients = s.clients }) in
-    record s { lines = all.lines; clients = all.clients }
-
-abbrev pub took_and_sent : ℕ → State → State
-took_and_sent index s = let s' = taken index s in option_map_or (λ n. sent_by n s') (slice_get s'.nodes index) s'
 
 -- ---- sessions
 
@@ -79,10 +64,6 @@ lines_opened reply client n session lines =
 abbrev pub client_opened : Session → Client → Client
 client_opened session client = record client { connections = next_number client.connections; session = Some session }
 
--- the session is on the node
-abbrev pub node_joined : ℕ → ℕ → NodeState → NodeState
-node_joined session client n = record n { guests = with_guest (record { session = session; client = client }) n.guests }
-
 -- the lines where a client opens this session on a node, if there is such a node
 abbrev pub lines_connected : Reply → Option NodeState → Session → Client → Lines → Lines
 lines_connected reply host session client lines = option_map_or (λ n. lines_opened reply client n session lines) host lines
@@ -93,7 +74,7 @@ client_connected_to host session client = option_map_or (λ n. client_opened ses
 
 -- the nodes, where the session of a number, of the client with an index, is on one of them from now on
 abbrev pub nodes_joined : ℕ → ℕ → ℕ → List NodeState → List NodeState
-nodes_joined session client index nodes = option_map_or (λ n. slice_set nodes index (node_joined session client n)) (slice_get nodes index) nodes
+nodes_joined session client index nodes = option_map_or (λ n. slice_set nodes index (node_joined (record { session = session; client = client }) n)) (slice_get nodes index) nodes
 
 -- the client with an index opens the next session on the node with an index, and is told this of it
 abbrev pub connected : Reply → ℕ → ℕ → State → State
@@ -118,9 +99,6 @@ abbrev pub break_cursor : At → NodeState → ℕ
 break_cursor (at.Away cursor) n = cursor
 break_cursor (at.Node index) n = n.cursor
 
-abbrev pub client_back : Client → Session → Client
-client_back client session = record client { connections = next_number client.connections; session = Some session }
-
 -- the reply, where there is one, after the replayed frames
 abbrev pub replied : Reply → Sent → Lines
 replied reply sent = option_map_or (λ (session : Session). with_reply reply sent.client.name session sent.lines) sent.client.session sent.lines
@@ -128,7 +106,7 @@ replied reply sent = option_map_or (λ (session : Session). with_reply reply sen
 -- the entries past the cursor of the break up to the node's that are addressed to the session are replayed
 abbrev pub replay : Asked → List Entry → Client → NodeState → Session → Session → Lines → Sent
 replay asked entries client n before back lines =
-    replayed entries (break_cursor before.at n) (n.cursor - break_cursor before.at n) (record { lines = lines_asked asked client n back lines; client = client_back client back })
+    replayed entries (break_cursor before.at n) (n.cursor - break_cursor before.at n) (record { lines = lines_asked asked client n back lines; client = client_opened back client })
 
 -- the session of the client, if it has one, is recovered on the node with an index
 abbrev pub recovered_on : Asked → List Entry → ℕ → NodeState → Client → Lines → Sent
@@ -138,7 +116,7 @@ recovered_on asked entries index n client lines = option_map_or
 
 -- the node then
 abbrev pub node_recovered : ℕ → Client → NodeState → NodeState
-node_recovered client_index client n = option_map_or (λ (session : Session). node_joined session.number client_index n) client.session n
+node_recovered client_index client n = option_map_or (λ (session : Session). node_joined (record { session = session.number; client = client_index }) n) client.session n
 
 -- the lines where it is recovered, if there is such a node
 abbrev pub lines_recovered : Reply → Asked → List Entry → ℕ → List NodeState → Client → Lines → Lines
@@ -162,10 +140,6 @@ recovered reply asked client index s = option_map_or (λ c. record s {
 }) (slice_get s.clients client) s
 
 -- ---- one client alone
-
--- an event of a word alone
-abbrev pub with_volatile : Client → List ℕ → Lines → Lines
-with_volatile client word lines = with_line client.name (rec.Client (TextIn (message (volatile_text word)))) lines
 
 -- the lines of a change of the client's session, where it has one
 abbrev pub for_session : (Session → Lines → Lines) → Client → Lines → Lines
@@ -201,8 +175,11 @@ with_client index client nodes lines s = record s { lines = lines; nodes = nodes
 abbrev pub for_client : ℕ → (Client → State → State) → State → State
 for_client index change s = option_map_or (λ c. change c s) (slice_get s.clients index) s
 
+-- an event of a word alone
 abbrev pub volatile_sent : ℕ → List ℕ → State → State
-volatile_sent index word s = option_map_or (λ c. record s { lines = with_volatile c word s.lines }) (slice_get s.clients index) s
+volatile_sent index word s = option_map_or
+    (λ (c : Client). record s { lines = with_line c.name (rec.Client (TextIn (message (volatile_text word)))) s.lines })
+    (slice_get s.clients index) s
 
 abbrev pub joined : ℕ → List ℕ → State → State
 joined index room s = for_client index (λ c s. with_client index (client_joined s.nodes room c) s.nodes (lines_joined s.nodes room c s.lines) s) s
@@ -217,11 +194,8 @@ abbrev pub finished : ℕ → State → State
 finished index s = for_client index (λ c s. with_client index (client_finished c) (nodes_after_leaving c s.nodes) (lines_finished s.nodes c s.lines) s) s
 
 -- a fault waits for the client's next frame
-abbrev pub client_injected : Injected → Client → Client
-client_injected fault client = record client { injected = fault }
-
 abbrev pub injected_in : ℕ → Injected → State → State
-injected_in index fault s = for_client index (λ c s. with_client index (client_injected fault c) s.nodes s.lines s) s
+injected_in index fault s = option_map_or (λ c. record s { clients = slice_set s.clients index (record c { injected = fault }) }) (slice_get s.clients index) s
 
 -- ---- the nodes' logs
 
@@ -247,7 +221,7 @@ awaited act s = s
 abbrev pub after : Act → State → State
 after (Emit rooms except word bin) s = emitted rooms except word bin s
 after (Volatile client word) s = volatile_sent (client - 1) word s
-after (Take n) s = took_and_sent (n - 1) s
+after (Take n) s = taken (n - 1) s
 after (Connect client n) s = connected Own (client - 1) (n - 1) s
 after (ConnectUnanswered client n) s = connected Missing (client - 1) (n - 1) s
 after (ConnectMisnamed client n) s = connected OtherSid (client - 1) (n - 1) s

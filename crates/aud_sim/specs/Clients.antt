@@ -1,7 +1,9 @@
 -- What a client has, and what it is sent. Positions count from 1.
 use Rattle.std.specs.Prelude.{ℕ, ◌+◌, ◌^◌, ◌-◌, ◌==◌, min, List, [], ◌∷◌, length, drop, Bool, false, Option, Some, None, option_map, if◌then◌else◌}
+use Rattle.std.specs.Option.{option_map_or}
 use Rattle.aud_tap.specs.declared.records.ClientRec.TheVariants.{TextIn, BytesIn}
 use Rattle.aud_tap.specs.declared.records.Rec.TheVariants as rec
+use Rattle.aud_tap.specs.declared.records.StreamRec.TheVariants.{Ev}
 use Rattle.aud_rooms.specs.Rooms.{is_addressed}
 use Rattle.aud_sim.specs.declared.entry.Entry.{Entry}
 use Rattle.aud_sim.specs.declared.client.Injected.{Injected}
@@ -9,7 +11,7 @@ use Rattle.aud_sim.specs.declared.client.Injected.TheVariants.{Nothing, DropNext
 use Rattle.aud_sim.specs.declared.client.Session.{Session}
 use Rattle.aud_sim.specs.declared.client.Client.{Client}
 use Rattle.aud_sim.specs.Bundle.{Lines, with_line}
-use Rattle.aud_sim.specs.Entries.{attachments_of, entry_at}
+use Rattle.aud_sim.specs.Entries.{entry_at}
 use Rattle.aud_sim.specs.Texts.{main_namespace}
 
 -- ---- what is written of a frame
@@ -25,35 +27,20 @@ with_frame name text attachments lines = with_attachments name attachments (with
 
 -- the frame of an entry
 abbrev pub with_own_frame : List ℕ → Entry → Lines → Lines
-with_own_frame name entry lines = with_frame name entry.frame (attachments_of entry.event) lines
+with_own_frame name entry lines = with_frame name entry.frame entry.event.bin lines
 
--- the frame of an entry, with another word
-abbrev pub with_altered_frame : List ℕ → Entry → Lines → Lines
-with_altered_frame name entry lines = with_frame name entry.altered (attachments_of entry.event) lines
-
--- the frame of an entry, as no packet
-abbrev pub with_garbled_frame : List ℕ → Entry → Lines → Lines
-with_garbled_frame name entry lines = with_frame name entry.garbled (attachments_of entry.event) lines
-
--- the frame of an entry, without the first of its attachments
-abbrev pub with_short_frame : List ℕ → Entry → Lines → Lines
-with_short_frame name entry lines = with_frame name entry.frame (drop 1 (attachments_of entry.event)) lines
-
--- the frame of the entry at a position
-abbrev pub with_held_frame : List ℕ → Option Entry → Lines → Lines
-with_held_frame name None lines = lines
-with_held_frame name (Some entry) lines = with_own_frame name entry lines
-
--- what is written where an entry is sent, by the fault that its frame meets
+-- what is written where an entry is sent, by the fault that its frame meets: its frame, with another word, as no packet,
+-- or without the first of its attachments; and the frame that was held
 abbrev pub with_sent : List ℕ → List Entry → Injected → Entry → Lines → Lines
 with_sent name entries Nothing entry lines = with_own_frame name entry lines
 with_sent name entries DropNext entry lines = lines
 with_sent name entries DoubleNext entry lines = with_own_frame name entry (with_own_frame name entry lines)
 with_sent name entries HoldNext entry lines = lines
-with_sent name entries AlterNext entry lines = with_altered_frame name entry lines
-with_sent name entries GarbleNext entry lines = with_garbled_frame name entry lines
-with_sent name entries ShortenNext entry lines = with_short_frame name entry lines
-with_sent name entries (Holds position) entry lines = with_held_frame name (entry_at entries position) (with_own_frame name entry lines)
+with_sent name entries AlterNext entry lines = with_frame name entry.altered entry.event.bin lines
+with_sent name entries GarbleNext entry lines = with_frame name entry.garbled entry.event.bin lines
+with_sent name entries ShortenNext entry lines = with_frame name entry.frame (drop 1 entry.event.bin) lines
+with_sent name entries (Holds position) entry lines =
+    let own = with_own_frame name entry lines in option_map_or (λ held. with_own_frame name held own) (entry_at entries position) own
 
 -- ---- what is left of the fault, and the last offset received
 
@@ -86,11 +73,11 @@ fault_after_connection fault = fault
 -- the entry is addressed to the session, if there is one
 abbrev pub is_for : Entry → Option Session → Bool
 is_for entry None = false
-is_for entry (Some session) = is_addressed entry.event main_namespace session.rooms
+is_for entry (Some session) = is_addressed (Ev entry.event) main_namespace session.rooms
 
 -- the fault that a frame of the entry meets, of the client's
 abbrev pub met_by : Entry → Client → Injected
-met_by entry client = met client.injected (length (attachments_of entry.event))
+met_by entry client = met client.injected (length entry.event.bin)
 
 -- the session after a frame of the entry at a position, which met this fault
 abbrev pub session_sent : Injected → ℕ → Session → Session

@@ -1,9 +1,9 @@
 -- The state of a simulated cluster.
 use Rattle.std.specs.Prelude.{ℕ, zero, suc, List, [], ◌∷◌, ◌++◌, None, codes}
-use Rattle.aud_tap.specs.declared.records.TapKind.{TapKind}
 use Rattle.aud_tap.specs.declared.records.TapKind.TheVariants as of
 use Rattle.aud_tap.specs.declared.records.NodeRec.TheVariants.{Start}
 use Rattle.aud_tap.specs.declared.records.Version.TheVariants.{One}
+use Rattle.aud_tap.specs.declared.records.Rec.{Rec}
 use Rattle.aud_tap.specs.declared.records.Rec.TheVariants as rec
 use Rattle.aud_sim.specs.declared.client.Client.{Client}
 use Rattle.aud_sim.specs.declared.client.Injected.TheVariants.{Nothing}
@@ -43,34 +43,23 @@ abbrev pub first_clients : ℕ → List Client
 first_clients zero = []
 first_clients (suc count) = first_clients count ++ record { name = name_of (codes "c") (suc count); connections = 0; injected = Nothing; session = None } ∷ []
 
--- the header of a tap
-abbrev pub with_header : TapKind → List ℕ → Lines → Lines
-with_header kind name lines = with_line name (rec.Header kind One) lines
+-- this record in each of so many taps, which are named by this letter and their numbers from 1
+abbrev pub with_each : List ℕ → Rec → ℕ → Lines → Lines
+with_each letter of_each zero lines = lines
+with_each letter of_each (suc count) lines = with_line (name_of letter (suc count)) of_each (with_each letter of_each count lines)
 
--- the headers of the nodes' taps
-abbrev pub with_node_headers : List NodeState → Lines → Lines
-with_node_headers [] lines = lines
-with_node_headers (node ∷ nodes) lines = with_node_headers nodes (with_header of.Node node.name lines)
-
--- the headers of the clients' taps
-abbrev pub with_client_headers : List Client → Lines → Lines
-with_client_headers [] lines = lines
-with_client_headers (client ∷ clients) lines = with_client_headers clients (with_header of.Client client.name lines)
-
--- each node begins at the stream's start
-abbrev pub with_starts : List NodeState → Lines → Lines
-with_starts [] lines = lines
-with_starts (node ∷ nodes) lines = with_starts nodes (with_line node.name (rec.Node (Start None)) lines)
-
--- all headers, and then the start of each node
-abbrev pub first_lines : List NodeState → List Client → Lines
+-- all headers, and then that each node begins at the stream's start
+abbrev pub first_lines : ℕ → ℕ → Lines
 first_lines nodes clients =
-    with_starts nodes (with_client_headers clients (with_node_headers nodes (with_header of.Stream stream_name no_lines)))
+    with_each (codes "n") (rec.Node (Start None)) nodes
+    (with_each (codes "c") (rec.Header of.Client One) clients
+    (with_each (codes "n") (rec.Header of.Node One) nodes
+    (with_line stream_name (rec.Header of.Stream One) no_lines)))
 
 -- so many nodes and clients, before the first act
 abbrev pub first_state : ℕ → ℕ → State
 first_state nodes clients = record {
-  lines = first_lines (first_nodes nodes) (first_clients clients);
+  lines = first_lines nodes clients;
   entries = [];
   nodes = first_nodes nodes;
   clients = first_clients clients;

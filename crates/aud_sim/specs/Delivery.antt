@@ -3,7 +3,7 @@ use Rattle.std.specs.Prelude.{ℕ, zero, suc, List, [], ◌∷◌, slice_get, sl
 use Rattle.std.specs.Option.{option_map_or}
 use Rattle.aud_sim.specs.declared.client.Client.{Client}
 use Rattle.aud_sim.specs.declared.entry.Entry.{Entry}
-use Rattle.aud_sim.specs.declared.guest.Guest.{Guest}
+use Rattle.aud_sim.specs.declared.node.Guest.{Guest}
 use Rattle.aud_sim.specs.Bundle.{Lines}
 use Rattle.aud_sim.specs.Clients.{lines_sent, client_sent}
 use Rattle.aud_sim.specs.Entries.{entry_at}

@@ -1,8 +1,6 @@
 -- The entries of a simulated cluster's stream.
-use Rattle.std.specs.Prelude.{ℕ, ◌-◌, List, [], ◌++◌, length, codes, Option, slice_get}
+use Rattle.std.specs.Prelude.{ℕ, ◌-◌, List, ◌++◌, length, codes, Option, slice_get}
 use Rattle.aud_tap.specs.declared.records.Event.{Event}
-use Rattle.aud_tap.specs.declared.records.StreamRec.{StreamRec}
-use Rattle.aud_tap.specs.declared.records.StreamRec.TheVariants.{Ev, Other}
 use Rattle.aud_sim.specs.declared.entry.Entry.{Entry}
 use Rattle.aud_sim.specs.Texts.{offset_at, main_namespace, event_text, message, garbled_message}
 
@@ -20,16 +18,11 @@ event_of rooms except word bin position = record {
 -- the entry, its frame, the frame with `x` at the end of its word, and the frame with `x` in place of its digit
 abbrev pub entry_of : List (List ℕ) → List (List ℕ) → List ℕ → List (List ℕ) → ℕ → Entry
 entry_of rooms except word bin position = record {
-  event = Ev (event_of rooms except word bin position);
+  event = event_of rooms except word bin position;
   frame = message (event_text word (length bin) position);
   altered = message (event_text (word ++ codes "x") (length bin) position);
   garbled = garbled_message (event_text word (length bin) position);
 }
-
--- the attachments of an entry
-abbrev pub attachments_of : StreamRec → List (List ℕ)
-attachments_of (Ev event) = event.bin
-attachments_of (Other off) = []
 
 -- the entry at a position; positions count from 1
 abbrev pub entry_at : List Entry → ℕ → Option Entry

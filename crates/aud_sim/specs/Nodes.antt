@@ -2,7 +2,7 @@
 use Rattle.std.specs.Prelude.{ℕ, nat_lt, nat_eq, not, Bool, List, Option, None, count_by, slice_get, slice_set}
 use Rattle.std.specs.List.{filter, insert}
 use Rattle.std.specs.Option.{option_map_or}
-use Rattle.aud_sim.specs.declared.guest.Guest.{Guest}
+use Rattle.aud_sim.specs.declared.node.Guest.{Guest}
 use Rattle.aud_sim.specs.declared.client.At.{At}
 use Rattle.aud_sim.specs.declared.client.At.TheVariants as at
 
@@ -28,6 +28,10 @@ without_session session guests = filter (λ guest. not (nat_eq guest.session ses
 abbrev pub host : List NodeState → At → Option NodeState
 host nodes (at.Node index) = slice_get nodes index
 host nodes (at.Away cursor) = None
+
+-- the node with the session among the others
+abbrev pub node_joined : Guest → NodeState → NodeState
+node_joined guest node = record node { guests = with_guest guest node.guests }
 
 -- the node without the session
 abbrev pub node_left : ℕ → NodeState → NodeState

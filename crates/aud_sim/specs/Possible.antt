@@ -1,5 +1,5 @@
 -- Which acts are possible in a state, act by act. Nodes and clients are numbered from 1.
-use Rattle.std.specs.Prelude.{ℕ, ◌-◌, ◌==◌, ◌&&◌, ◌||◌, nat_le, nat_lt, not, List, length, Bool, true, false, Option, Some, None, is_some, option_and_then, slice_get, if◌then◌else◌}
+use Rattle.std.specs.Prelude.{ℕ, ◌-◌, ◌==◌, ◌&&◌, ◌||◌, nat_le, nat_lt, not, List, length, Bool, true, false, Option, Some, None, is_some, option_map, option_and_then, slice_get, if◌then◌else◌}
 use Rattle.std.specs.List.{list_all}
 use Rattle.std.specs.Option.{option_map_or}
 use Rattle.aud_tap.specs.Limits.{max_turn}
@@ -42,10 +42,6 @@ has_connection client = option_map_or (λ (session : Session). is_on_node sessio
 abbrev pub is_connected : List Client → ℕ → Bool
 is_connected clients number = option_map_or has_connection (numbered clients number) false
 
--- there is such a client, and it has no connection
-abbrev pub is_unconnected : List Client → ℕ → Bool
-is_unconnected clients number = option_map_or (λ client. not (has_connection client)) (numbered clients number) false
-
 -- no fault waits for a frame, or holds one
 abbrev pub is_nothing : Injected → Bool
 is_nothing injected.Nothing = true
@@ -67,13 +63,9 @@ break_at (at.Away cursor) session = if is_some session.last && nat_lt session.tu
 abbrev pub break_of : List Client → ℕ → Option ℕ
 break_of clients number = option_and_then (λ (client : Client). option_and_then (λ (session : Session). break_at session.at session) client.session) (numbered clients number)
 
--- the client's session may be recovered, and there is such a node, which has taken as much as the node of the break had
-abbrev pub can_recover : State → ℕ → ℕ → Bool
-can_recover s client node = option_map_or (λ cursor. option_map_or (λ (n : NodeState). nat_le cursor n.cursor) (numbered s.nodes node) false) (break_of s.clients client) false
-
--- or less
-abbrev pub can_recover_lagging : State → ℕ → ℕ → Bool
-can_recover_lagging s client node = option_map_or (λ cursor. option_map_or (λ (n : NodeState). nat_lt n.cursor cursor) (numbered s.nodes node) false) (break_of s.clients client) false
+-- the node has taken less than that of the break had, where there is such a node and the client's session may be recovered
+abbrev pub lag : State → ℕ → ℕ → Option Bool
+lag s client node = option_and_then (λ cursor. option_map (λ (n : NodeState). nat_lt n.cursor cursor) (numbered s.nodes node)) (break_of s.clients client)
 
 -- ---- the table
 
@@ -83,7 +75,7 @@ can_take s node = option_map_or (λ (n : NodeState). nat_lt n.cursor (length s.e
 
 -- there is such a client, without a connection, and such a node, and a session more may be opened
 abbrev pub can_connect : State → ℕ → ℕ → Bool
-can_connect s client node = is_unconnected s.clients client && is_some (numbered s.nodes node) && nat_lt s.sessions max_pids
+can_connect s client node = option_map_or (λ c. not (has_connection c) && is_some (numbered s.nodes node) && nat_lt s.sessions max_pids) (numbered s.clients client) false
 
 -- the state allows the act
 abbrev pub can : Act → State → Bool
@@ -96,10 +88,10 @@ can (ConnectMisnamed client node) s = can_connect s client node
 can (Join client room) s = is_connected s.clients client
 can (Leave client room) s = is_connected s.clients client
 can (Cut client) s = is_connected s.clients client
-can (Recover client node) s = can_recover s client node
-can (RecoverLagging client node) s = can_recover_lagging s client node
-can (RecoverUnknown client node) s = can_recover s client node
-can (RecoverUnanswered client node) s = can_recover s client node
+can (Recover client node) s = option_map_or not (lag s client node) false
+can (RecoverLagging client node) s = option_map_or (λ lags. lags) (lag s client node) false
+can (RecoverUnknown client node) s = option_map_or not (lag s client node) false
+can (RecoverUnanswered client node) s = option_map_or not (lag s client node) false
 can (Finish client) s = is_connected s.clients client
 can (DropNext client) s = has_no_fault s.clients client
 can (DoubleNext client) s = has_no_fault s.clients client

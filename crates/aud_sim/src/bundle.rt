@@ -1,7 +1,7 @@
 //! The text of a bundle, while it is written.
 ghost use Rattle.std.specs.Prelude.{◌≡◌, OnOk};
 ghost use Rattle.aud_tap.specs.declared.records.Rec.TheVariants.{Node, Client};
-ghost use Rattle.aud_sim.specs.Bundle.{no_lines, is_sound, with_log_fault, with_text, with_text_by, with_text_of, with_line};
+ghost use Rattle.aud_sim.specs.Bundle.{no_lines, with_text, with_text_of, with_line};
 
 use aud_reader::ReadFault;
 use aud_tap::{ClientRec, NodeRec, Rec, is_tap_name};
@@ -24,10 +24,10 @@ pub enum LogFault {
 /// next line of a node's log.
 #[derive(Drop)]
 pub struct Bundle {
-    alloc: Global,
-    text: Vec<u8>,
-    is_whole: bool,
-    fault: LogFault,
+    pub alloc: Global,
+    pub text: Vec<u8>,
+    pub is_whole: bool,
+    pub fault: LogFault,
 }
 
 impl Model for Bundle {
@@ -51,42 +51,6 @@ impl Bundle {
         }
     }
 
-    /// What it allocates with.
-    pub fn alloc(&self) -> Global {
-        self.alloc
-    }
-
-    /// Whether each line could be a bundle's.
-    pub fn is_whole(&self) -> bool
-        ensures { result ≡ self.now.is_whole }
-    {
-        self.is_whole
-    }
-
-    /// The text.
-    pub fn into_text(self) -> Vec<u8>
-        ensures { result.items ≡ self.text }
-    {
-        self.text
-    }
-
-    /// Whether no fault waits for the next line of a node's log.
-    pub fn is_sound(&self) -> bool
-        ensures { result ≡ is_sound self.now.fault }
-    {
-        match self.fault {
-            LogFault::Nothing => true,
-            _ => false,
-        }
-    }
-
-    /// The fault waits for the next line of a node's log.
-    pub fn spoil(&mut self, fault: LogFault)
-        ensures { self.new ≡ with_log_fault fault self.old }
-    {
-        self.fault = fault;
-    }
-
     /// Puts a line of this text at the end.
     fn push(&mut self, line: &[u8]) -> Result<(), AllocError>
         ensures { OnOk result (self.new ≡ with_text line.now self.old) }
@@ -96,21 +60,7 @@ impl Bundle {
         Ok(())
     }
 
-    /// Puts a line of a node's log with this fault at the end.
-    fn push_by(&mut self, fault: LogFault, line: &[u8]) -> Result<(), AllocError>
-        ensures { OnOk result (self.new ≡ with_text_by fault line.now self.old) }
-    {
-        match fault {
-            LogFault::Nothing => self.push(line),
-            LogFault::LoseLine => Ok(()),
-            LogFault::RepeatLine => {
-                self.push(line)?;
-                self.push(line)
-            }
-        }
-    }
-
-    /// Puts the line of a record, which is this text, at the end, unless a fault takes it.
+    /// Puts the line of a record, which is this text, at the end; a node's by the fault that waits.
     fn push_of(&mut self, rec: &Rec, line: &[u8]) -> Result<(), AllocError>
         ensures { OnOk result (self.new ≡ with_text_of rec.now line.now self.old) }
     {
@@ -119,7 +69,14 @@ impl Bundle {
         };
         let fault = self.fault;
         self.fault = LogFault::Nothing;
-        self.push_by(fault, line)
+        match fault {
+            LogFault::Nothing => self.push(line),
+            LogFault::LoseLine => Ok(()),
+            LogFault::RepeatLine => {
+                self.push(line)?;
+                self.push(line)
+            }
+        }
     }
 
     /// Puts the line of a record at the end, by the fault that waits if it is a node's. One that can't be a bundle's is

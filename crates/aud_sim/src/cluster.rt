@@ -1,6 +1,8 @@
 //! The state of a simulated cluster.
 ghost use Rattle.std.specs.Prelude.{◌≡◌, IfOk, OnOk};
-ghost use Rattle.aud_sim.specs.Cluster.{first_nodes, first_clients, with_header, with_node_headers, with_client_headers, with_starts, first_lines};
+ghost use Rattle.aud_sim.specs.Bundle.{with_line};
+ghost use Rattle.aud_sim.specs.Cluster.{first_nodes, first_clients, with_each, first_lines};
+ghost use Rattle.aud_sim.specs.Texts.{name_of};
 
 use crate::bundle::Bundle;
 use crate::client::{Client, Injected};
@@ -52,56 +54,49 @@ fn first_clients(alloc: Global, count: usize) -> Result<Vec<Client>, AllocError>
     Ok(clients)
 }
 
+/// Puts the record into the tap that is named by this letter and this number.
+fn put_in(bundle: &mut Bundle, letter: &str, number: usize, rec: &Rec) -> Result<(), AllocError>
+    ensures { OnOk result (bundle.new
+        ≡ with_line (name_of letter.now number) rec.now bundle.old) }
+{
+    let name = name_of(bundle.alloc, letter, number)?;
+    bundle.line(name.as_str(), rec)
+}
+
+/// Puts the record into each of so many taps, which are named by this letter and their numbers from 1.
+fn put_each(bundle: &mut Bundle, letter: &str, count: usize, rec: &Rec) -> Result<(), AllocError>
+    ensures { OnOk result (bundle.new ≡ with_each letter.now rec.now count bundle.old) }
+{
+    for index in 0..count {
+        put_in(bundle, letter, index + 1, rec)?;
+    }
+    Ok(())
+}
+
 /// The header of a tap.
-fn header(bundle: &mut Bundle, name: &str, of: TapKind) -> Result<(), AllocError>
-    ensures { OnOk result (bundle.new ≡ with_header of name.now bundle.old) }
+fn header(of: TapKind) -> Rec
+    ensures { result ≡ Rec.Header of Version.One }
 {
-    bundle.line(
-        name,
-        &Rec::Header {
-            of,
-            v: Version::One,
-        },
-    )
-}
-
-fn node_headers(bundle: &mut Bundle, nodes: &[Node]) -> Result<(), AllocError>
-    ensures { OnOk result (bundle.new ≡ with_node_headers nodes.now bundle.old) }
-{
-    for node in nodes {
-        header(bundle, node.name.as_str(), TapKind::Node)?;
+    Rec::Header {
+        of,
+        v: Version::One,
     }
-    Ok(())
-}
-
-fn client_headers(bundle: &mut Bundle, clients: &[Client]) -> Result<(), AllocError>
-    ensures { OnOk result (bundle.new ≡ with_client_headers clients.now bundle.old) }
-{
-    for client in clients {
-        header(bundle, client.name.as_str(), TapKind::Client)?;
-    }
-    Ok(())
-}
-
-/// That each node begins at the stream's start.
-fn starts(bundle: &mut Bundle, nodes: &[Node]) -> Result<(), AllocError>
-    ensures { OnOk result (bundle.new ≡ with_starts nodes.now bundle.old) }
-{
-    for node in nodes {
-        bundle.node(node.name.as_str(), NodeRec::Start { off: None })?;
-    }
-    Ok(())
 }
 
 /// The first lines: the headers, and the start of each node.
-fn first_lines(alloc: Global, nodes: &[Node], clients: &[Client]) -> Result<Bundle, AllocError>
-    ensures { IfOk result (λ bundle. bundle ≡ first_lines nodes.now clients.now) }
+fn first_lines(alloc: Global, nodes: usize, clients: usize) -> Result<Bundle, AllocError>
+    ensures { IfOk result (λ bundle. bundle ≡ first_lines nodes clients) }
 {
     let mut bundle = Bundle::new(alloc);
-    header(&mut bundle, "st", TapKind::Stream)?;
-    node_headers(&mut bundle, nodes)?;
-    client_headers(&mut bundle, clients)?;
-    starts(&mut bundle, nodes)?;
+    bundle.line("st", &header(TapKind::Stream))?;
+    put_each(&mut bundle, "n", nodes, &header(TapKind::Node))?;
+    put_each(&mut bundle, "c", clients, &header(TapKind::Client))?;
+    put_each(
+        &mut bundle,
+        "n",
+        nodes,
+        &Rec::Node(NodeRec::Start { off: None }),
+    )?;
     Ok(bundle)
 }
 
@@ -112,15 +107,12 @@ impl Cluster {
     pub fn new(alloc: Global, nodes: usize, clients: usize) -> Result<Cluster, AllocError>
         ensures { IfOk result (λ cluster. seen cluster ≡ first_state nodes clients) }
     {
-        let nodes = first_nodes(alloc, nodes)?;
-        let clients = first_clients(alloc, clients)?;
-        let bundle = first_lines(alloc, &nodes, &clients)?;
         Ok(Cluster {
             alloc,
-            bundle,
+            bundle: first_lines(alloc, nodes, clients)?,
             entries: Vec::new(alloc),
-            nodes,
-            clients,
+            nodes: first_nodes(alloc, nodes)?,
+            clients: first_clients(alloc, clients)?,
             sessions: 0,
         })
     }

@@ -1,40 +1,23 @@
 //! Sending an entry to the sessions that it is addressed to.
 ghost use Rattle.std.specs.Prelude.{◌≡◌, ◌-◌, OnOk, length, option_map};
-ghost use Rattle.aud_sim.specs.Clients.{met, fault_after, last_after, is_for, session_sent, lines_sent, client_sent};
-ghost use Rattle.aud_sim.specs.Entries.{attachments_of};
+ghost use Rattle.aud_sim.specs.Clients.{met, fault_after, last_after, is_for, session_sent};
 ghost use Rattle.aud_sim.specs.Delivery.{sent_to, replayed, sent_to_guest, sent_to_guests};
 
 use crate::bundle::Bundle;
 use crate::client::{Client, Injected};
-use crate::entry::{Entry, entry_at};
+use crate::entry::Entry;
 use crate::frames::sent;
-use crate::guest::Guest;
+use crate::node::Guest;
 use crate::rooms::is_addressed;
 use std::alloc::AllocError;
 
 /// The fault that a frame of the entry meets, of the one that waits: of no attachments none is lost.
 fn met(fault: Injected, entry: &Entry) -> Injected
-    ensures { result ≡ met fault (length (attachments_of entry.now.event)) }
+    ensures { result ≡ met fault (length entry.now.event.bin) }
 {
     match fault {
-        Injected::ShortenNext => {
-            if entry.attachments().is_empty() {
-                Injected::Nothing
-            } else {
-                fault
-            }
-        }
+        Injected::ShortenNext if entry.event.bin.as_slice().is_empty() => Injected::Nothing,
         _ => fault,
-    }
-}
-
-/// The fault after a frame of the entry at a position.
-fn fault_after(fault: Injected, position: usize) -> Injected
-    ensures { result ≡ fault_after fault position }
-{
-    match fault {
-        Injected::HoldNext => Injected::Holds(position),
-        _ => Injected::Nothing,
     }
 }
 
@@ -70,28 +53,10 @@ fn note(client: &mut Client, fault: Injected, position: usize)
     if let Some(session) = &mut client.session {
         session.last = last_after(fault, position, session.last);
     }
-    client.injected = fault_after(fault, position);
-}
-
-/// Sends an entry, at this position, to the client, where it is addressed to its session.
-fn send(
-    bundle: &mut Bundle,
-    entries: &[Entry],
-    position: usize,
-    entry: &Entry,
-    client: &mut Client,
-) -> Result<(), AllocError>
-    ensures lines { OnOk result (bundle.new
-        ≡ lines_sent entries.now entry.now client.old bundle.old) }
-    ensures client { OnOk result (client.new ≡ client_sent position entry.now client.old) }
-{
-    if !is_for(entry, client) {
-        return Ok(());
-    }
-    let fault = met(client.injected, entry);
-    sent(bundle, client.name.as_str(), entries, fault, entry)?;
-    note(client, fault, position);
-    Ok(())
+    client.injected = match fault {
+        Injected::HoldNext => Injected::Holds(position),
+        _ => Injected::Nothing,
+    };
 }
 
 /// Sends the entry at a position to the client, where it is addressed to its session.
@@ -105,10 +70,16 @@ fn deliver(
         (record { lines = bundle.old; client = client.old })
         ≡ record { lines = bundle.new; client = client.new }) }
 {
-    match entry_at(entries, position) {
-        Some(entry) => send(bundle, entries, position, entry, client),
-        None => Ok(()),
+    let Some(entry) = entries.get(position.saturating_sub(1)) else {
+        return Ok(());
+    };
+    if !is_for(entry, client) {
+        return Ok(());
     }
+    let fault = met(client.injected, entry);
+    sent(bundle, client.name.as_str(), entries, fault, entry)?;
+    note(client, fault, position);
+    Ok(())
 }
 
 /// Sends the entry at a position to the client with this index, where it is addressed to its session.

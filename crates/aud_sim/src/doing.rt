@@ -1,6 +1,6 @@
 //! What an act does.
-ghost use Rattle.std.specs.Prelude.{◌≡◌, ◌-◌, IfOk, OnOk};
-ghost use Rattle.aud_sim.specs.Acts.{emitted, lines_taken, node_taken, taken, took_and_sent, connected, recovered, volatile_sent, joined, parted, cut, finished, injected_in, awaited, after};
+ghost use Rattle.std.specs.Prelude.{◌≡◌, ◌-◌, OnOk};
+ghost use Rattle.aud_sim.specs.Acts.{emitted, lines_taken, node_taken, taken, connected, recovered, volatile_sent, joined, parted, cut, finished, injected_in, awaited, after};
 ghost use Rattle.aud_sim.specs.Cluster.{seen};
 
 use crate::act::Act;
@@ -12,8 +12,8 @@ use crate::entry::{Entry, event};
 use crate::node::Node;
 use crate::recovery::recover_on;
 use crate::sessions::{self, open_on};
-use aud_tap::{Bytes, NodeRec, Rec, StreamRec, Text};
-use std::alloc::{AllocError, Global};
+use aud_tap::{Bytes, ClientRec, NodeRec, Rec, StreamRec, Text};
+use std::alloc::AllocError;
 
 /// The index of what has this number, from 1.
 fn index(number: usize) -> usize
@@ -47,48 +47,23 @@ fn emit(
 }
 
 /// A node takes its next entry, if there is one.
-fn take_next(
-    alloc: Global,
-    bundle: &mut Bundle,
-    entries: &[Entry],
-    node: &mut Node,
-) -> Result<(), AllocError>
+fn take_next(bundle: &mut Bundle, entries: &[Entry], node: &mut Node) -> Result<(), AllocError>
     ensures lines { OnOk result (bundle.new ≡ lines_taken entries.now node.old bundle.old) }
     ensures node { OnOk result (node.new ≡ node_taken entries.now node.old) }
 {
-    match entries.get(node.cursor) {
-        Some(entry) => {
-            let off = entry.event.offset().share()?;
-            bundle.node(node.name.as_str(), NodeRec::Take { off })?;
-            node.cursor += 1;
-            Ok(())
-        }
-        None => Ok(()),
-    }
+    let Some(entry) = entries.get(node.cursor) else {
+        return Ok(());
+    };
+    let off = entry.event.off.share()?;
+    bundle.node(node.name.as_str(), NodeRec::Take { off })?;
+    node.cursor += 1;
+    Ok(())
 }
 
-/// The node with an index takes its next entry.
+/// The node with an index takes its next entry, and sends it.
 fn take(cluster: &mut Cluster, index: usize) -> Result<(), AllocError>
     ensures { OnOk result (seen cluster.new ≡ taken index (seen cluster.old)) }
 {
-    let Cluster {
-        alloc,
-        bundle,
-        entries,
-        nodes,
-        ..
-    } = cluster;
-    match nodes.get_mut(index) {
-        Some(node) => take_next(*alloc, bundle, entries, node),
-        None => Ok(()),
-    }
-}
-
-/// A node takes its next entry, and sends it.
-fn take_and_send(cluster: &mut Cluster, index: usize) -> Result<(), AllocError>
-    ensures { OnOk result (seen cluster.new ≡ took_and_sent index (seen cluster.old)) }
-{
-    take(cluster, index)?;
     let Cluster {
         bundle,
         entries,
@@ -96,10 +71,11 @@ fn take_and_send(cluster: &mut Cluster, index: usize) -> Result<(), AllocError>
         clients,
         ..
     } = cluster;
-    match nodes.get(index) {
-        Some(node) => deliver_to_all(bundle, entries, node.cursor, clients, &node.guests),
-        None => Ok(()),
-    }
+    let Some(node) = nodes.get_mut(index) else {
+        return Ok(());
+    };
+    take_next(bundle, entries, node)?;
+    deliver_to_all(bundle, entries, node.cursor, clients, &node.guests)
 }
 
 /// A client opens a session on a node, both by number, and is told this of it.
@@ -158,15 +134,14 @@ fn recover(
 fn send_volatile(cluster: &mut Cluster, index: usize, word: &str) -> Result<(), AllocError>
     ensures { OnOk result (seen cluster.new ≡ volatile_sent index word.now (seen cluster.old)) }
 {
-    let Cluster {
-        bundle,
-        clients,
-        ..
-    } = cluster;
-    match clients.get(index) {
-        Some(client) => sessions::volatile(bundle, client, word),
-        None => Ok(()),
-    }
+    let Some(client) = cluster.clients.get(index) else {
+        return Ok(());
+    };
+    let text = format!(in cluster.alloc; "42[\"{word}\"]")?;
+    let t = Text::new(cluster.alloc, text.as_str())?;
+    cluster
+        .bundle
+        .client(client.name.as_str(), ClientRec::TextIn { t })
 }
 
 /// The session of a client joins a room.
@@ -253,8 +228,8 @@ fn await_fault(cluster: &mut Cluster, act: &Act)
         Act::AlterNext { client } => inject(cluster, index(*client), Injected::AlterNext),
         Act::GarbleNext { client } => inject(cluster, index(*client), Injected::GarbleNext),
         Act::ShortenNext { client } => inject(cluster, index(*client), Injected::ShortenNext),
-        Act::LoseLine => cluster.bundle.spoil(LogFault::LoseLine),
-        Act::RepeatLine => cluster.bundle.spoil(LogFault::RepeatLine),
+        Act::LoseLine => cluster.bundle.fault = LogFault::LoseLine,
+        Act::RepeatLine => cluster.bundle.fault = LogFault::RepeatLine,
         _ => {}
     }
 }
@@ -274,7 +249,7 @@ pub fn perform(cluster: &mut Cluster, act: &Act) -> Result<(), AllocError>
             emit(cluster, rooms, except, word.as_str(), bin.as_slice())
         }
         Act::Volatile { client, word } => send_volatile(cluster, index(*client), word.as_str()),
-        Act::Take { node } => take_and_send(cluster, index(*node)),
+        Act::Take { node } => take(cluster, index(*node)),
         Act::Connect { client, node } => connect(cluster, Reply::Own, *client, *node),
         Act::ConnectUnanswered { client, node } => {
             connect(cluster, Reply::Missing, *client, *node)
@@ -285,10 +260,7 @@ pub fn perform(cluster: &mut Cluster, act: &Act) -> Result<(), AllocError>
         Act::Join { client, room } => join(cluster, index(*client), room.as_str()),
         Act::Leave { client, room } => leave(cluster, index(*client), room.as_str()),
         Act::Cut { client } => cut(cluster, index(*client)),
-        Act::Recover { client, node } => {
-            recover(cluster, Reply::Own, Asked::LastReceived, *client, *node)
-        }
-        Act::RecoverLagging { client, node } => {
+        Act::Recover { client, node } | Act::RecoverLagging { client, node } => {
             recover(cluster, Reply::Own, Asked::LastReceived, *client, *node)
         }
         Act::RecoverUnknown { client, node } => {

@@ -13,7 +13,6 @@ mod doing;
 mod entry;
 mod fault;
 mod frames;
-mod guest;
 mod node;
 mod possible;
 mod recovery;

@@ -1,15 +1,16 @@
 //! Recoveries.
 ghost use Rattle.std.specs.Prelude.{◌≡◌, OnOk};
-ghost use Rattle.aud_sim.specs.Acts.{lines_asked, break_cursor, client_back, replied, replay, node_joined, recovered_on, node_recovered, lines_recovered, client_recovered, nodes_recovered};
+ghost use Rattle.aud_sim.specs.Acts.{lines_asked, break_cursor, replied, replay, recovered_on, node_recovered, lines_recovered, client_recovered, nodes_recovered};
+ghost use Rattle.aud_sim.specs.Nodes.{node_joined};
 ghost use Rattle.aud_sim.specs.Sessions.{asked_position, with_asking, session_back, client_connected};
 
 use crate::bundle::Bundle;
 use crate::client::{Asked, At, Client, Reply, Session};
 use crate::delivery;
 use crate::entry::Entry;
-use crate::node::Node;
-use crate::sessions::{arrive, connect, reply};
-use crate::texts::{asking_text, copied};
+use crate::node::{Guest, Node};
+use crate::sessions::{begin, reply};
+use crate::texts::asking_text;
 use aud_tap::{ClientRec, NodeRec};
 use std::alloc::AllocError;
 
@@ -29,7 +30,7 @@ fn ask(bundle: &mut Bundle, asked: Asked, name: &str, session: &Session) -> Resu
 {
     match asked_position(asked, session.last) {
         Some(position) => {
-            let t = asking_text(bundle.alloc(), session.pid.as_str(), position)?;
+            let t = asking_text(bundle.alloc, session.pid.as_str(), position)?;
             bundle.client(name, ClientRec::TextOut { t })
         }
         None => Ok(()),
@@ -48,9 +49,9 @@ fn write_asking(
         ≡ lines_asked asked client.old node.now session.now bundle.old) }
     ensures client { OnOk result (client.new ≡ client_connected client.old) }
 {
-    connect(bundle, client)?;
+    begin(bundle, client)?;
     ask(bundle, asked, client.name.as_str(), session)?;
-    let pid = copied(bundle.alloc(), session.pid.as_str())?;
+    let pid = session.pid.share()?;
     let turn = session.turn;
     bundle.node(node.name.as_str(), NodeRec::Back { pid, turn })
 }
@@ -94,7 +95,8 @@ fn recover(
     ensures client { OnOk result (client.new
         ≡ (replay asked entries.now client.old node.old session
         (session_back node_index session) bundle.old).client) }
-    ensures node { OnOk result (node.new ≡ node_joined session.number client_index node.old) }
+    ensures node { OnOk result (node.new
+        ≡ node_joined (record { session = session.number; client = client_index }) node.old) }
 {
     let from = break_cursor(session.at, node);
     let number = session.number;
@@ -103,7 +105,10 @@ fn recover(
     write_asking(bundle, asked, client, node, &session)?;
     client.session = Some(session);
     delivery::replay(bundle, entries, from, node.cursor, client)?;
-    arrive(node, number, client_index)
+    node.join(Guest {
+        session: number,
+        client: client_index,
+    })
 }
 
 /// The session of a client, if it has one, is recovered on a node.

@@ -5,7 +5,7 @@ ghost use Rattle.std.specs.FinSet as set;
 ghost use Rattle.aud_rooms.specs.Rooms.{Rooms, is_addressed, own_room};
 ghost use Rattle.aud_sim.specs.Texts.{main_namespace};
 
-use aud_tap::{StreamRec, Text};
+use aud_tap::{Event, StreamRec, Text};
 use std::alloc::{AllocError, Global};
 use std::collections::BTreeSet;
 use std::marker::Model;
@@ -31,21 +31,14 @@ impl Model for HeldRooms {
 }
 
 impl HeldRooms {
-    /// No rooms.
-    fn new(alloc: Global) -> HeldRooms
-        ensures { result ≡ set.empty }
-    {
-        HeldRooms {
-            alloc,
-            rooms: BTreeSet::new(alloc),
-        }
-    }
-
     /// The one room that is named by a sid.
     pub fn own(alloc: Global, sid: &str) -> Result<HeldRooms, AllocError>
         ensures { IfOk result (λ rooms. rooms ≡ own_room sid.now) }
     {
-        let mut rooms = HeldRooms::new(alloc);
+        let mut rooms = HeldRooms {
+            alloc,
+            rooms: BTreeSet::new(alloc),
+        };
         rooms.join(sid)?;
         Ok(rooms)
     }
@@ -81,13 +74,10 @@ fn holds_any(held: &HeldRooms, rooms: &[Text]) -> bool
     rooms.iter().any(|room| held.contains(room.as_str()))
 }
 
-/// Whether an entry is addressed to a session in the main namespace that holds these rooms.
-pub fn is_addressed(entry: &StreamRec, held: &HeldRooms) -> bool
-    ensures { result ≡ is_addressed entry.now main_namespace held.now }
+/// Whether an event is addressed to a session in the main namespace that holds these rooms.
+pub fn is_addressed(event: &Event, held: &HeldRooms) -> bool
+    ensures { result ≡ is_addressed (StreamRec.Ev event.now) main_namespace held.now }
 {
-    let StreamRec::Ev(event) = entry else {
-        return false;
-    };
     if event.nsp.as_str() != "/" || holds_any(held, event.except.as_slice()) {
         return false;
     }

@@ -1,8 +1,7 @@
 //! The bundle of a cluster that runs a schedule.
 ghost use Rattle.std.specs.Prelude.{◌≡◌, ◌≤◌, true, IfOk, MatchOption, Ok, Err};
-ghost use Rattle.aud_sim.specs.Acts.{after};
 ghost use Rattle.aud_sim.specs.Cluster.{seen};
-ghost use Rattle.aud_sim.specs.Schedule.{possible, scheduled, simulated, Simulates};
+ghost use Rattle.aud_sim.specs.Schedule.{scheduled, simulated, Simulates};
 
 use crate::act::Act;
 use crate::cluster::Cluster;
@@ -11,18 +10,6 @@ use crate::fault::SimFault;
 use crate::possible::can;
 use std::alloc::{AllocError, Global};
 
-/// Does an act where it is possible, and answers whether it was.
-fn step(cluster: &mut Cluster, act: &Act) -> Result<bool, AllocError>
-    ensures possible { IfOk result (λ was. was ≡ possible act.now (seen cluster.old)) }
-    ensures after { result ≡ Ok true → seen cluster.new ≡ after act.now (seen cluster.old) }
-{
-    if !can(act, cluster) {
-        return Ok(false);
-    }
-    perform(cluster, act)?;
-    Ok(cluster.bundle.is_whole())
-}
-
 /// Does the acts, up to the first that isn't possible, whose number it answers, from 0.
 fn run(cluster: &mut Cluster, acts: &[Act]) -> Result<Option<usize>, AllocError>
     ensures { IfOk result (λ refused. MatchOption refused
@@ -30,8 +17,11 @@ fn run(cluster: &mut Cluster, acts: &[Act]) -> Result<Option<usize>, AllocError>
         (λ number. scheduled 0 acts.now (seen cluster.old) ≡ Err number)) }
 {
     for (number, act) in acts.iter().enumerate() {
-        let was_possible = step(cluster, act)?;
-        if !was_possible {
+        if !can(act, cluster) {
+            return Ok(Some(number));
+        }
+        perform(cluster, act)?;
+        if !cluster.bundle.is_whole {
             return Ok(Some(number));
         }
     }
@@ -59,7 +49,7 @@ pub fn simulate(
         return Err(SimFault::Memory);
     };
     match run(&mut cluster, acts) {
-        Ok(None) => Ok(cluster.bundle.into_text()),
+        Ok(None) => Ok(cluster.bundle.text),
         Ok(Some(number)) => Err(SimFault::Act(number)),
         Err(AllocError) => Err(SimFault::Memory),
     }

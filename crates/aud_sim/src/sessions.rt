@@ -1,18 +1,17 @@
 //! Sessions: opened, joining and leaving rooms, broken, over.
 ghost use Rattle.std.specs.Prelude.{◌≡◌, IfOk, OnOk, slice_get};
 ghost use Rattle.std.specs.Option.{option_copied};
-ghost use Rattle.aud_sim.specs.Acts.{lines_opened, lines_connected, client_connected_to, nodes_joined, with_volatile, lines_joined, lines_parted, lines_cut, lines_finished, client_opened, client_joined, client_parted, nodes_after_leaving, node_joined};
+ghost use Rattle.aud_sim.specs.Acts.{lines_opened, lines_connected, client_connected_to, nodes_joined, lines_joined, lines_parted, lines_cut, lines_finished, client_opened, client_joined, client_parted, nodes_after_leaving};
 ghost use Rattle.aud_sim.specs.Clients.{fault_after_connection, next_number};
-ghost use Rattle.aud_sim.specs.Nodes.{host, node_left, nodes_left, place_after_break};
-ghost use Rattle.aud_sim.specs.Sessions.{with_opened, with_connection, with_reply_of, with_reply, with_departure, with_left, with_change, first_session, session_joined, session_parted, session_cut, client_connected, client_cut, client_finished};
+ghost use Rattle.aud_sim.specs.Nodes.{host, node_joined, node_left, nodes_left, place_after_break};
+ghost use Rattle.aud_sim.specs.Sessions.{with_connection, with_reply_of, with_reply, with_departure, with_left, with_change, first_session, session_joined, session_parted, session_cut, client_connected, client_cut, client_finished};
 
 use crate::bundle::Bundle;
 use crate::client::{At, Client, Injected, Reply, Session};
-use crate::guest::{Guest, insert_guest, remove_guest};
-use crate::node::Node;
+use crate::node::{Guest, Node};
 use crate::rooms::HeldRooms;
-use crate::texts::{copied, name_of, reply_text, volatile_text};
-use aud_tap::{ClientRec, NodeRec};
+use crate::texts::name_of;
+use aud_tap::{ClientRec, NodeRec, Text};
 use std::alloc::{AllocError, Global};
 
 /// The fault once a connection is over: a held frame is not written any more.
@@ -26,7 +25,7 @@ fn fault_after_connection(fault: Injected) -> Injected
 }
 
 /// That a connection of the client begins.
-pub fn connect(bundle: &mut Bundle, client: &mut Client) -> Result<(), AllocError>
+pub fn begin(bundle: &mut Bundle, client: &mut Client) -> Result<(), AllocError>
     ensures client { OnOk result (client.new ≡ client_connected client.old) }
     ensures lines { OnOk result (bundle.new
         ≡ with_connection client.old.name (next_number client.old.connections) bundle.old) }
@@ -40,7 +39,9 @@ pub fn connect(bundle: &mut Bundle, client: &mut Client) -> Result<(), AllocErro
 fn reply_of(bundle: &mut Bundle, name: &str, sid: &str, session: &Session) -> Result<(), AllocError>
     ensures { OnOk result (bundle.new ≡ with_reply_of name.now sid.now session.now bundle.old) }
 {
-    let t = reply_text(bundle.alloc(), sid, session.pid.as_str())?;
+    let pid = session.pid.as_str();
+    let text = format!(in bundle.alloc; "40{{\"sid\":\"{sid}\",\"pid\":\"{pid}\"}}")?;
+    let t = Text::new(bundle.alloc, text.as_str())?;
     bundle.client(name, ClientRec::TextIn { t })
 }
 
@@ -56,7 +57,7 @@ pub fn reply(
     match reply {
         Reply::Own => reply_of(bundle, name, session.sid.as_str(), session),
         Reply::OtherSid => {
-            let sid = name_of(bundle.alloc(), "x", session.number)?;
+            let sid = name_of(bundle.alloc, "x", session.number)?;
             reply_of(bundle, name, sid.as_str(), session)
         }
         Reply::Missing => Ok(()),
@@ -81,23 +82,6 @@ fn first_session(alloc: Global, number: usize, node: usize) -> Result<Session, A
     })
 }
 
-fn opened(bundle: &mut Bundle, node: &str, session: &Session) -> Result<(), AllocError>
-    ensures { OnOk result (bundle.new ≡ with_opened node.now session.now bundle.old) }
-{
-    let alloc = bundle.alloc();
-    let pid = copied(alloc, session.pid.as_str())?;
-    let sid = copied(alloc, session.sid.as_str())?;
-    let nsp = copied(alloc, "/")?;
-    bundle.node(node, NodeRec::Opened { pid, sid, nsp })
-}
-
-/// The session of a client is on the node from now on.
-pub fn arrive(node: &mut Node, session: usize, client: usize) -> Result<(), AllocError>
-    ensures { OnOk result (node.new ≡ node_joined session client node.old) }
-{
-    insert_guest(&mut node.guests, Guest { session, client })
-}
-
 /// A client opens this session on a node: what is written.
 fn write_opening(
     bundle: &mut Bundle,
@@ -110,8 +94,11 @@ fn write_opening(
         ≡ lines_opened answer client.old node.now session.now bundle.old) }
     ensures client { OnOk result (client.new ≡ client_connected client.old) }
 {
-    opened(bundle, node.name.as_str(), session)?;
-    connect(bundle, client)?;
+    let pid = session.pid.share()?;
+    let sid = session.sid.share()?;
+    let nsp = Text::new(bundle.alloc, "/")?;
+    bundle.node(node.name.as_str(), NodeRec::Opened { pid, sid, nsp })?;
+    begin(bundle, client)?;
     reply(bundle, answer, client.name.as_str(), session)
 }
 
@@ -129,13 +116,16 @@ fn open(
         ≡ lines_opened answer client.old node.old (first_session number node_index) bundle.old) }
     ensures client { OnOk result (client.new
         ≡ client_opened (first_session number node_index) client.old) }
-    ensures node { OnOk result (node.new ≡ node_joined number client_index node.old) }
+    ensures node { OnOk result (node.new
+        ≡ node_joined (record { session = number; client = client_index }) node.old) }
 {
-    let session = first_session(bundle.alloc(), number, node_index)?;
+    let session = first_session(bundle.alloc, number, node_index)?;
     write_opening(bundle, answer, client, node, &session)?;
-    arrive(node, number, client_index)?;
     client.session = Some(session);
-    Ok(())
+    node.join(Guest {
+        session: number,
+        client: client_index,
+    })
 }
 
 /// A client opens the session of a number on the node with an index, if there is one, and is told this of it.
@@ -161,14 +151,6 @@ pub fn open_on(
         Some(node) => open(bundle, answer, client, client_index, node, index, number),
         None => Ok(()),
     }
-}
-
-/// An event of a word alone.
-pub fn volatile(bundle: &mut Bundle, client: &Client, word: &str) -> Result<(), AllocError>
-    ensures { OnOk result (bundle.new ≡ with_volatile client.now word.now bundle.old) }
-{
-    let t = volatile_text(bundle.alloc(), word)?;
-    bundle.client(client.name.as_str(), ClientRec::TextIn { t })
 }
 
 /// The node that a session is on.
@@ -197,9 +179,8 @@ fn join_here(
     let Some(node) = host(nodes, session.at) else {
         return Ok(());
     };
-    let alloc = bundle.alloc();
-    let pid = copied(alloc, session.pid.as_str())?;
-    let own = copied(alloc, room)?;
+    let pid = session.pid.share()?;
+    let own = Text::new(bundle.alloc, room)?;
     bundle.node(node.name.as_str(), NodeRec::Join { pid, room: own })?;
     session.rooms.join(room)
 }
@@ -220,9 +201,8 @@ fn leave_here(
     let Some(node) = host(nodes, session.at) else {
         return Ok(());
     };
-    let alloc = bundle.alloc();
-    let pid = copied(alloc, session.pid.as_str())?;
-    let own = copied(alloc, room)?;
+    let pid = session.pid.share()?;
+    let own = Text::new(bundle.alloc, room)?;
     bundle.node(node.name.as_str(), NodeRec::Leave { pid, room: own })?;
     session.rooms.leave(room);
     Ok(())
@@ -276,7 +256,7 @@ fn depart(
 {
     bundle.node(node.name.as_str(), rec)?;
     bundle.client(name, ClientRec::Lost)?;
-    remove_guest(&mut node.guests, number);
+    node.leave(number);
     Ok(())
 }
 
@@ -327,7 +307,7 @@ fn cut_session(
     ensures session { OnOk result (session.new ≡ session_cut nodes.old.items session.old) }
 {
     let away = place_after_break(nodes, session.at);
-    let pid = copied(bundle.alloc(), session.pid.as_str())?;
+    let pid = session.pid.share()?;
     let rec = NodeRec::Broke {
         pid,
         turn: session.turn,
@@ -368,7 +348,7 @@ fn write_end(
     ensures nodes { OnOk result (nodes.new.items
         ≡ nodes_left session.now.number session.now.at nodes.old.items) }
 {
-    let pid = copied(bundle.alloc(), session.pid.as_str())?;
+    let pid = session.pid.share()?;
     leave_node(
         bundle,
         name,

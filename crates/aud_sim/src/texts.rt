@@ -1,17 +1,10 @@
-//! The texts that a cluster makes: names, offsets and packets.
+//! The texts that a cluster makes: names, and the text of an event.
 ghost use Rattle.std.specs.Prelude.{◌≡◌, ◌++◌, IfOk, OnOk, string_bytes};
 ghost use Rattle.std.specs.Fmt.{decimal};
-ghost use Rattle.aud_sim.specs.Texts.{name_of, offset_at, event_head, placeholder, placeholders, event_text, volatile_text, reply_text, asking_text, message};
+ghost use Rattle.aud_sim.specs.Texts.{name_of, event_head, placeholder, placeholders, event_text, asking_text, message};
 
 use aud_tap::Text;
 use std::alloc::{AllocError, Global};
-
-/// A copy of the text.
-pub fn copied(alloc: Global, text: &str) -> Result<Text, AllocError>
-    ensures { IfOk result (λ copy. copy ≡ text.now) }
-{
-    Text::new(alloc, text)
-}
 
 /// A letter and a number: of a tap, a pid or a sid.
 pub fn name_of(alloc: Global, letter: &str, number: usize) -> Result<Text, AllocError>
@@ -21,24 +14,14 @@ pub fn name_of(alloc: Global, letter: &str, number: usize) -> Result<Text, Alloc
     Text::new(alloc, text.as_str())
 }
 
-/// The offset of the entry at a position.
-pub fn offset_at(alloc: Global, position: usize) -> Result<Text, AllocError>
-    ensures { IfOk result (λ off. off ≡ offset_at position) }
-{
-    let text = format!(in alloc; "{position}-0")?;
-    Text::new(alloc, text.as_str())
-}
-
-/// Puts the packet's type at the end, and the count of attachments, if there are any.
-fn push_head(text: &mut String, count: usize) -> Result<(), AllocError>
-    ensures { OnOk result (string_bytes text.new ≡ string_bytes text.old ++ event_head count) }
+/// The packet's type, and the count of attachments, if there are any.
+fn event_head(alloc: Global, count: usize) -> Result<String, AllocError>
+    ensures { IfOk result (λ head. string_bytes head ≡ event_head count) }
 {
     if count == 0 {
-        text.push_str("2")?;
-    } else {
-        write!(text, "5{count}-")?;
+        return String::from_str(alloc, "2");
     }
-    Ok(())
+    format!(in alloc; "5{count}-")
 }
 
 /// Puts a number between two texts at the end.
@@ -81,33 +64,11 @@ pub fn event_text(
 ) -> Result<String, AllocError>
     ensures { IfOk result (λ text. string_bytes text ≡ event_text word.now count position) }
 {
-    let mut text = String::new(alloc);
-    push_head(&mut text, count)?;
+    let mut text = event_head(alloc, count)?;
     write!(text, "[\"{word}\"")?;
     push_placeholders(&mut text, count)?;
     write!(text, ",\"{position}-0\"]")?;
     Ok(text)
-}
-
-/// The text of an event of a word alone.
-pub fn volatile_text(alloc: Global, word: &str) -> Result<Text, AllocError>
-    ensures { IfOk result (λ text. text ≡ message (volatile_text word.now)) }
-{
-    let text = format!(in alloc; "42[\"{word}\"]")?;
-    Text::new(alloc, text.as_str())
-}
-
-/// The server's answer to a CONNECT.
-pub fn reply_text(alloc: Global, sid: &str, pid: &str) -> Result<Text, AllocError>
-    ensures { IfOk result (λ text. text ≡ message (reply_text sid.now pid.now)) }
-{
-    let mut text = String::new(alloc);
-    text.push_str("40{\"sid\":\"")?;
-    text.push_str(sid)?;
-    text.push_str("\",\"pid\":\"")?;
-    text.push_str(pid)?;
-    text.push_str("\"}")?;
-    Text::new(alloc, text.as_str())
 }
 
 /// The client's CONNECT that asks for a recovery, as a string.

@@ -1,6 +1,0 @@
-use Rattle.std.proofs.Common.{◌≡◌, drop}
-use Rattle.aud_sim.specs.Clients.{with_attachments}
-use Rattle.aud_sim.proofs.frames.attachments.Given as goal
-
-abbrev pub invariant-loop-bytes : goal.invariant-loop-bytes
-invariant-loop-bytes l = with_attachments l.name (drop l.bytes-index l.bin) l.bundle ≡ with_attachments l.name l.bin l.initial.bundle
