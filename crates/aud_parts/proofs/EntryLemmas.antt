@@ -33,11 +33,11 @@ placed-item keeps stream i event left old new at is before after =
     ∙ sym (placed-next keeps 1 stream i (suc i) event at (omega arith))
     ∙ ap (λ n. placed_left keeps 1 (take n stream)) (sym (add-one i))
 
--- the entry, by flags that say what the tests do
-pub stays-left : (is_for : StreamRec → Bool) (came : List ℕ) (position : ℕ) (event left : StreamRec) (stays flag : Bool) → flag ≡ list_any (nat_eq position) came
-    → stays ≡ (is_recoverable event && (is_for event || flag)) → left ≡ cond stays event (Other (offset_of event)) → left ≡ entry_left (stays_event is_for came position) event
-stays-left is_for came position event left stays flag marked is made =
-    made ∙ ap (λ b. cond b event (Other (offset_of event))) (is ∙ ap (λ b. is_recoverable event && (is_for event || b)) marked)
+-- the entry, by a flag that says whether it came
+pub stays-left : (is_for : StreamRec → Bool) (came : List ℕ) (position : ℕ) (event left : StreamRec) (flag : Bool) → flag ≡ list_any (nat_eq position) came
+    → left ≡ cond (is_recoverable event && (is_for event || flag)) event (Other (offset_of event)) → left ≡ entry_left (stays_event is_for came position) event
+stays-left is_for came position event left flag marked made =
+    made ∙ ap (λ b. cond (is_recoverable event && (is_for event || b)) event (Other (offset_of event))) marked
 
 -- where a test by position and one by the entry agree, they keep the same
 pub placed-same : (keeps : ℕ → StreamRec → Bool) (by_entry : StreamRec → Bool) (first : ℕ) (stream : List StreamRec)

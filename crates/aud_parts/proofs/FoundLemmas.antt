@@ -1,11 +1,11 @@
 -- The records that are found are those that the part's come from.
-use Rattle.std.proofs.Common.{◌≡◌, ◌<◌, ◌≤◌, ◌+◌, ℕ, zero, suc, Bool, true, false, not, cond, if◌then◌else◌, ◌&&◌, List, [], ◌∷◌, ◌++◌, length, map, drop, filter, flat_map, Option, Some, None, is_some, slice_get, slice_index, nat_lt, refl, sym, ap, ◌∙◌, subst, arith, true≢false}
+use Rattle.std.proofs.Common.{◌≡◌, ◌<◌, ◌+◌, ℕ, zero, suc, Bool, true, false, not, cond, if◌then◌else◌, ◌&&◌, List, [], ◌∷◌, ◌++◌, length, map, drop, filter, flat_map, Option, Some, None, is_some, slice_get, slice_index, nat_lt, refl, sym, ap, ◌∙◌, subst, arith, true≢false}
 use Rattle.std.specs.List.{AllByRecursion}
 use Rattle.std.specs.Str.{bytes_eq}
 use Rattle.std.specs.Option.{option_map_or}
 use Rattle.std.proofs.lemmas.Bool.{eqb-true, ltb-true}
-use Rattle.std.proofs.lemmas.List.{length-map}
-use Rattle.std.proofs.lemmas.Option.{same_Some, none-some, slice_get_past}
+use Rattle.std.proofs.lemmas.List.{drop_all, length-map}
+use Rattle.std.proofs.lemmas.Option.{get_or_from_slice_get, same_Some, none-some, slice_get_past}
 use Rattle.aud_base.specs.Lists.{numbers_from}
 use Rattle.aud_base.proofs.Lists.{element_at, drop_at}
 use Rattle.aud_base.proofs.SameText.{itself_text, same_text}
@@ -20,6 +20,7 @@ use Rattle.aud_upgrade.specs.Upgraded.{takes_next, takes_after, took_next, joine
 use Rattle.aud_parts.specs.LeftOut.{keeps_record, keeps_pid}
 use Rattle.aud_parts.specs.Part.{is_among}
 use Rattle.aud_parts.specs.ServerLines.{own_records, own_places, keeps_at, stands, standing, places_left}
+use Rattle.aud_parts.proofs.ListSteps.{all-both}
 use Rattle.aud_parts.specs.Private.FoundRecords.{taken, are_same, comes_from, found}
 
 -- ---- takes in order
@@ -157,26 +158,9 @@ apart stream own rec c a d b one other h =
         let at : a ≡ b = same_Some a b (sym one.stands_at ∙ ap (position stream) same ∙ other.stands_at) in
         absurd (omega (arith, h, at))
 
--- the element at an index
-index-at : (xs : List ℕ) (i x : ℕ) → slice_get xs i ≡ Some x → slice_index xs i ≡ x
-index-at [] i x at = absurd (none-some x at)
-index-at (y ∷ ys) zero x at = same_Some y x at
-index-at (y ∷ ys) (suc i) x at = index-at ys i x at
-
--- nothing is left from the end on
-drop-all : {X : Type 0} (xs : List X) (n : ℕ) → length xs ≤ n → drop n xs ≡ []
-drop-all [] zero h = refl
-drop-all [] (suc n) h = refl
-drop-all (x ∷ xs) zero h = absurd (omega (arith, h))
-drop-all (x ∷ xs) (suc n) h = drop-all xs n (omega (arith, h))
-
 -- each of the records names nobody, or a session that is named
 abbrev AreKept : (Text → Bool) → List NodeRec → Type 0
 AreKept names recs = AllByRecursion (λ rec. keeps_record names rec ≡ true) recs
-
-kept-append : (names : Text → Bool) (xs ys : List NodeRec) → AreKept names xs → AreKept names ys → AreKept names (xs ++ ys)
-kept-append names [] ys all more = more
-kept-append names (x ∷ xs) ys all more = (all.0, kept-append names xs ys all.1 more)
 
 joined-kept : (names : Text → Bool) (before here after : Bool) (rec : NodeRec) → keeps_record names rec ≡ true → AreKept names (joined before here after (Some rec))
 joined-kept names true true true rec e = tt
@@ -276,7 +260,7 @@ module _ (stream : List StreamRec) (log : List NodeRec) where
       ∙ ap (λ us. found_at (label ∷ drop (suc number) labels) (rec ∷ drop (suc number) log) (us ++ more)) own
       ∙ ap (λ b. cond b (label ∷ found_at (drop (suc number) labels) (drop (suc number) log) more) (found_at (drop (suc number) labels) (drop (suc number) log) (here.own ∷ more))) here.comes
       ∙ ap (λ ns. label ∷ ns) later
-      ∙ ap (λ n. n ∷ map (slice_index labels) (left (suc number) count)) (sym (index-at labels number label at_label))
+      ∙ ap (λ n. n ∷ map (slice_index labels) (left (suc number) count)) (sym (get_or_from_slice_get labels number label 0 at_label))
       ∙ sym (ap (λ b. map (slice_index labels) (cond b (number ∷ left (suc number) count) (left (suc number) count))) stays)
 
   -- ..., where it is
@@ -301,7 +285,7 @@ module _ (stream : List StreamRec) (log : List NodeRec) where
 
   found-from : (labels : List ℕ) → length labels ≡ length log → (count number : ℕ) → number + count ≡ length log → IsFound labels number count
   found-from labels same zero number whole =
-      ap (λ rs. found_at (drop number labels) rs []) (drop-all log number (omega (arith, whole)))
+      ap (λ rs. found_at (drop number labels) rs []) (drop_all number log (omega (arith, whole)))
   found-from labels same (suc count) number whole =
       let (rec, at) = element_at log number (omega (arith, whole)) in
       let (label, at_label) = element_at labels number (omega (arith, whole, same)) in
@@ -352,7 +336,7 @@ module _ (stream : List StreamRec) (log : List NodeRec) where
       let here = takes_next TakeAndTakes stream log number in
       let after = takes_next TakeAndTakes stream log (suc number) in
       let own : upgraded_at TakeAndTakes stream log number ≡ joined (took_next TakeAndTakes stream log number) here after (Some rec) = at-is number rec here after at refl refl in
-      kept-append names (upgraded_at TakeAndTakes stream log number) (from (suc number) count)
+      all-both (λ rec. keeps_record names rec ≡ true) (upgraded_at TakeAndTakes stream log number) (from (suc number) count)
       (subst (AreKept names) (sym own) (joined-kept names (took_next TakeAndTakes stream log number) here after rec (kept number rec at)))
       (keep-from names kept count (suc number) (omega (arith, whole)))
 

@@ -24,6 +24,7 @@ use Rattle.aud_parts.specs.declared.tap_index.tap_runs.Run.{Run}
 use Rattle.aud_parts.specs.TapRuns.{BeginsWithBytes, TapRuns, line_with_bytes, lines_with_bytes, run_bytes, run_lines, runs_lines}
 use Rattle.aud_parts.specs.FileLines.{before_refusal, front_code, front_refusal, is_named, lines_named, refused_or}
 use Rattle.aud_parts.specs.IndexSoFar.{AreOnce, Indexed, Noted, PlacedLine, all_ended, longer, noted, refused, run_of, with_bytes, with_line, with_name}
+use Rattle.aud_parts.proofs.ListSteps.{all-both, all-parts}
 use Rattle.aud_parts.proofs.NotedLemmas.{GoesOn, Grows, grows, last_of, last_of-push, last_run, longer-is, runs_by}
 use Rattle.aud_parts.proofs.PieceLemmas.{AreWhole, all_ended-push, between-middle, lines-append, lines-one, pieces-ended, whole-push}
 use Rattle.aud_parts.proofs.RefusalLemmas.{before-none, refusal-after, refusal-none}
@@ -85,14 +86,6 @@ begun-more files run more l same is begins = go (run_lines files run) is begins
     go [] is at = absurd (none-some run.number at)
     go (x ∷ lines) is at = ap (λ ls. option_map (λ (line : Line). line.number) (slice_get ls 0)) is ∙ at ∙ ap Some (sym same)
 
-all-push : {X : Type 0} (P : X → Type 0) (xs : List X) (x : X) → AllByRecursion P xs → P x → AllByRecursion P (xs ++ x ∷ [])
-all-push P [] x all own = (own, tt)
-all-push P (y ∷ ys) x all own = (all.0, all-push P ys x all.1 own)
-
-all-front : {X : Type 0} (P : X → Type 0) (xs : List X) (x : X) → AllByRecursion P (xs ++ x ∷ []) → AllByRecursion P xs × P x
-all-front P [] x all = (tt, all.0)
-all-front P (y ∷ ys) x all = let rest = all-front P ys x all.1 in ((all.0, rest.0), rest.1)
-
 begun-longer : (files : List (List ℕ)) (goes_on : Bool) (line : Run) (runs : List Run) (l : Line) → run_lines files line ≡ l ∷ [] → l.number ≡ line.number
     → ((run : Run) → goes_on ≡ true → last_of runs ≡ Some run → run.file ≡ line.file → run_lines files (record run { to = line.to }) ≡ run_lines files run ++ l ∷ [])
     → AllByRecursion (BeginsWithBytes files) runs → AllByRecursion (BeginsWithBytes files) (longer goes_on line runs)
@@ -101,12 +94,12 @@ begun-longer files goes_on line runs l own numbered more all = go (longer-is goe
     go : (longer goes_on line runs ≡ runs ++ line ∷ []) ⊎ GoesOn goes_on line runs → AllByRecursion (BeginsWithBytes files) (longer goes_on line runs)
     go (inl e) =
         subst (AllByRecursion (BeginsWithBytes files)) (sym e)
-        (all-push (BeginsWithBytes files) runs line all (ap (λ ls. option_map (λ (line : Line). line.number) (slice_get ls 0)) own ∙ ap Some numbered))
+        (all-both (BeginsWithBytes files) runs (line ∷ []) all (ap (λ ls. option_map (λ (line : Line). line.number) (slice_get ls 0)) own ∙ ap Some numbered, tt))
     go (inr g) =
-        let parts = all-front (BeginsWithBytes files) g.front g.run (subst (AllByRecursion (BeginsWithBytes files)) g.are all) in
+        let parts = all-parts (BeginsWithBytes files) g.front (g.run ∷ []) (subst (AllByRecursion (BeginsWithBytes files)) g.are all) in
         subst (AllByRecursion (BeginsWithBytes files)) (sym g.with_line)
-        (all-push (BeginsWithBytes files) g.front (record g.run { to = line.to }) parts.0
-        (begun-more files g.run (record g.run { to = line.to }) l refl (more g.run g.may g.last g.in_file) parts.1))
+        (all-both (BeginsWithBytes files) g.front (record g.run { to = line.to } ∷ []) parts.0
+        (begun-more files g.run (record g.run { to = line.to }) l refl (more g.run g.may g.last g.in_file) parts.1.0, tt))
 
 -- the last run, with a line more
 last-longer : {P : Type 0} (goes_on : Bool) (line : Run) (runs : List Run) (run : Run) → last_of (longer goes_on line runs) ≡ Some run

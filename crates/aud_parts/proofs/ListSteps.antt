@@ -1,6 +1,6 @@
 -- Steps of loops over lists, and what lists have after a sort.
 use Rattle.std.proofs.Common.{◌≡◌, ◌<◌, ◌+◌, ℕ, suc, Bool, true, false, not, cond, ◌||◌, List, [], ◌∷◌, ◌++◌, length, map, take, drop, get_or, Option, Some, None, option_map, slice_get, nat_lt, refl, sym, subst, ap, ◌∙◌, arith}
-use Rattle.std.specs.List.{list_any, flat_map, filter_map, cons_option, dedup, dedup_from, position, position_or_len}
+use Rattle.std.specs.List.{AllByRecursion, list_any, flat_map, filter_map, cons_option, dedup, dedup_from, position, position_or_len}
 use Rattle.std.specs.Option.{option_to_list}
 use Rattle.std.specs.Prelude.{nat_eq}
 use Rattle.std.proofs.lemmas.Bool.{eqb-true, lt-ltb, le-ltb, ltb-true, ltb-false}
@@ -30,6 +30,15 @@ filter_map-item f xs i x old new within read before after =
     after ∙ ap (λ ys. ys ++ option_to_list (f x)) before ∙ ap (λ ys. filter_map f (take i xs) ++ ys) (maybe_one (f x))
     ∙ sym (filter_map-append f (take i xs) (x ∷ []))
     ∙ ap (λ y. filter_map f (take i xs ++ y ∷ [])) read ∙ sym (ap (filter_map f) (take_more xs i x within))
+
+-- what holds of two lists together holds of each, and what holds of each holds of both together
+pub all-parts : {X : Type 0} (P : X → Type 0) (xs ys : List X) → AllByRecursion P (xs ++ ys) → AllByRecursion P xs × AllByRecursion P ys
+all-parts P [] ys all = (tt, all)
+all-parts P (x ∷ xs) ys all = let rest = all-parts P xs ys all.1 in ((all.0, rest.0), rest.1)
+
+pub all-both : {X : Type 0} (P : X → Type 0) (xs ys : List X) → AllByRecursion P xs → AllByRecursion P ys → AllByRecursion P (xs ++ ys)
+all-both P [] ys left right = right
+all-both P (x ∷ xs) ys left right = (left.0, all-both P xs ys left.1 right)
 
 -- what stands for each element, and for one more
 pub each-push : {A B : Type 0} (Is : A → B → Type 0) (xs : List A) (ys : List B) (x : A) (y : B) → OneForEach Is xs ys → Is x y → OneForEach Is (xs ++ x ∷ []) (ys ++ y ∷ [])

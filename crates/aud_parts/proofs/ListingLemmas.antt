@@ -19,7 +19,7 @@ use Rattle.aud_parts.specs.declared.listing.ListedSession.{ListedSession}
 use Rattle.aud_parts.specs.declared.listing.fault.ListingFault.{ListingFault}
 use Rattle.aud_parts.specs.declared.listing.fault.ListingFault.TheVariants.{NoListing, CutShort, NoPart, NoPid, PidTwice, EmptyPart}
 use Rattle.aud_parts.specs.Cut.{cut_at, whole_lines, number_in, after_prefix}
-use Rattle.aud_parts.specs.Listing.{Gives, session_line, listing_text, are_within, are_formed, are_new, is_full, is_listing, number_under, counts_in_words, counts_in, session_of_words, session_in, sessions_in, checked, listing_after, listing_in, unended_fault, listing_of}
+use Rattle.aud_parts.specs.Listing.{Gives, session_line, listing_text, are_within, are_formed, are_new, is_full, is_listing, number_under, numbers_in_words, numbers_under, counts_in, session_of_words, session_in, sessions_in, checked, listing_after, listing_in, unended_fault, listing_of}
 use Rattle.aud_parts.proofs.CutLemmas.{has_byte, cut-after, lines-ended, lines-flat}
 use Rattle.aud_parts.proofs.NumberLemmas.{number-back, decimal-without}
 
@@ -183,16 +183,22 @@ sessions-back parts (s ∷ all) small within formed =
 abbrev pub head_words : ℕ → ℕ → List ℕ
 head_words parts count = codes "parts=" ++ decimal parts ++ codes " sessions=" ++ decimal count
 
+-- two numbers that were written after these bytes
+pub numbers-back : (one other : List ℕ) (first second : ℕ) (line : List ℕ) → has_byte 32 one ≡ false → first < 2 ^ 64 → second < 2 ^ 64
+    → line ≡ (one ++ decimal first) ++ 32 ∷ (other ++ decimal second) → numbers_under one other line ≡ Some (first, second)
+numbers-back one other first second line none small few is =
+    let front = one ++ decimal first in
+    let cut = ap (cut_at 32) is ∙ cut-after 32 front (other ++ decimal second) (has_byte-append 32 one (decimal first) none (decimal-without 32 first (omega arith))) refl in
+    let here : number_under one front ≡ Some first = ap (option_and_then number_in) (prefix-back one (decimal first)) ∙ number-back first small in
+    let there : number_under other (other ++ decimal second) ≡ Some second = ap (option_and_then number_in) (prefix-back other (decimal second)) ∙ number-back second few in
+    ap (option_and_then (numbers_in_words one other)) cut
+    ∙ (λ i. option_and_then (λ (n : ℕ). option_map (λ (m : ℕ). (n, m)) (there i)) (here i))
+
 -- the first line reads as its counts
 counts-back : (parts count : ℕ) → parts < 2 ^ 64 → count < 2 ^ 64 → counts_in (head_words parts count) ≡ Some (parts, count)
 counts-back parts count small few =
-    let front = codes "parts=" ++ decimal parts in
-    let none = has_byte-append 32 (codes "parts=") (decimal parts) refl (decimal-without 32 parts (omega arith)) in
-    let cut = ap (cut_at 32) (append_assoc front (codes " sessions=") (decimal count)) ∙ cut-after 32 front (codes "sessions=" ++ decimal count) none refl in
-    let first : number_under (codes "parts=") (codes "parts=" ++ decimal parts) ≡ Some parts = ap (option_and_then number_in) (prefix-back (codes "parts=") (decimal parts)) ∙ number-back parts small in
-    let second : number_under (codes "sessions=") (codes "sessions=" ++ decimal count) ≡ Some count = ap (option_and_then number_in) (prefix-back (codes "sessions=") (decimal count)) ∙ number-back count few in
-    ap (option_and_then counts_in_words) cut
-    ∙ (λ i. option_and_then (λ (n : ℕ). option_map (λ (m : ℕ). (n, m)) (second i)) (first i))
+    numbers-back (codes "parts=") (codes "sessions=") parts count (head_words parts count) refl small few
+    (append_assoc (codes "parts=" ++ decimal parts) (codes " sessions=") (decimal count))
 
 -- no line has a newline
 lines-without : (all : List ListedSession) → list_all (λ (s : ListedSession). is_session_id s.pid) all ≡ true → list_all (λ (s : ListedSession). not (has_byte 10 (session_words s))) all ≡ true

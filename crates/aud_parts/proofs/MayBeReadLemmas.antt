@@ -1,5 +1,5 @@
 -- The taps of an index may be read again.
-use Rattle.std.proofs.Common.{◌≡◌, ℕ, zero, suc, ◌+◌, ◌^◌, ◌<◌, ◌≤◌, nat_lt, List, [], ◌∷◌, ◌++◌, length, get_or, Bool, true, false, cond, Some, None, is_some, refl, sym, subst, arith}
+use Rattle.std.proofs.Common.{◌≡◌, ℕ, zero, suc, ◌+◌, ◌^◌, ◌<◌, ◌≤◌, nat_lt, List, [], ◌∷◌, length, get_or, Bool, true, false, cond, Some, None, is_some, refl, sym, subst, arith}
 use Rattle.std.specs.List.{All, AllByRecursion, filter}
 use Rattle.std.proofs.lemmas.Bool.{ltb-false}
 use Rattle.aud_tap.specs.Limits.{max_line}
@@ -10,6 +10,7 @@ use Rattle.aud_parts.specs.declared.tap_index.tap_runs.Run.{Run}
 use Rattle.aud_parts.specs.TapRuns.{IsReadable, MayBeRead, TapRuns, run_lines, runs_lines}
 use Rattle.aud_parts.specs.FileLines.{before_refusal, file_lines, front_code, is_named}
 use Rattle.aud_parts.specs.IndexSoFar.{byte_count, none_indexed, placed_files, with_lines}
+use Rattle.aud_parts.proofs.ListSteps.{all-parts}
 use Rattle.aud_parts.proofs.FileRunLemmas.{are-taps, begun-taps}
 use Rattle.aud_parts.proofs.RunStartLemmas.{StartsIn, counted-run, starts}
 
@@ -40,10 +41,6 @@ all-filter P p (x ∷ xs) all = go (p x) (all-filter P p xs all.1)
     go : (b : Bool) → AllByRecursion P (filter p xs) → AllByRecursion P (cond b (x ∷ filter p xs) (filter p xs))
     go true rest = (all.0, rest)
     go false rest = rest
-
-all-parts : {X : Type 0} (P : X → Type 0) (xs ys : List X) → AllByRecursion P (xs ++ ys) → AllByRecursion P xs × AllByRecursion P ys
-all-parts P [] ys all = (tt, all)
-all-parts P (x ∷ xs) ys all = let rest = all-parts P xs ys all.1 in ((all.0, rest.0), rest.1)
 
 readable-runs : (files : List (List ℕ)) (runs : List Run) → byte_count files + 1 < 2 ^ 64 → AllByRecursion (StartsIn files) runs → AllByRecursion IsShort (runs_lines files runs)
     → AllByRecursion (IsReadable files) runs

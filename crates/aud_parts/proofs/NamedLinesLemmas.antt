@@ -16,9 +16,9 @@ use Rattle.aud_parts.specs.declared.named_lines.fault.LinesFault.{LinesFault}
 use Rattle.aud_parts.specs.declared.named_lines.fault.LinesFault.TheVariants.{BadLine, NoSize, OtherCount}
 use Rattle.aud_parts.specs.Cut.{cut_at, whole_lines, number_in}
 use Rattle.aud_parts.specs.Listing.{number_under}
-use Rattle.aud_parts.specs.NamedLines.{size_line, run_line, file_line, ended, lines_text, is_run, is_file, are_lines, size_in_words, size_in, run_from, run_in_words, run_in, file_in_words, file_in, runs_in, files_in, part_with, part_after, part_in, part_of}
+use Rattle.aud_parts.specs.NamedLines.{size_line, run_line, file_line, ended, lines_text, is_run, is_file, are_lines, size_of, size_in, run_from, run_in_words, run_in, file_in_words, file_in, runs_in, files_in, part_with, part_after, part_in, part_of}
 use Rattle.aud_parts.proofs.CutLemmas.{has_byte, cut-after, lines-ended, lines-flat, with_lines}
-use Rattle.aud_parts.proofs.ListingLemmas.{has_byte-append, prefix-back}
+use Rattle.aud_parts.proofs.ListingLemmas.{has_byte-append, numbers-back, prefix-back}
 use Rattle.aud_parts.proofs.NumberLemmas.{number-back, decimal-without}
 
 -- ---- a loop over the lines
@@ -98,13 +98,9 @@ files-back number (file ∷ files) are =
 -- the first line reads as its size
 size-back : (size : Size) → size.lines < 2 ^ 64 → size.bytes < 2 ^ 64 → size_in (size_line size) ≡ Some size
 size-back size small few =
-    let front = codes "lines=" ++ decimal size.lines in
-    let none = has_byte-append 32 (codes "lines=") (decimal size.lines) refl (decimal-without 32 size.lines (omega arith)) in
-    let cut = ap (cut_at 32) (append_assoc front (codes " bytes=") (decimal size.bytes)) ∙ cut-after 32 front (codes "bytes=" ++ decimal size.bytes) none refl in
-    let first : number_under (codes "lines=") (codes "lines=" ++ decimal size.lines) ≡ Some size.lines = ap (option_and_then number_in) (prefix-back (codes "lines=") (decimal size.lines)) ∙ number-back size.lines small in
-    let second : number_under (codes "bytes=") (codes "bytes=" ++ decimal size.bytes) ≡ Some size.bytes = ap (option_and_then number_in) (prefix-back (codes "bytes=") (decimal size.bytes)) ∙ number-back size.bytes few in
-    ap (option_and_then size_in_words) cut
-    ∙ (λ i. option_and_then (λ (n : ℕ). option_map (λ (m : ℕ). record { lines = n; bytes = m }) (second i)) (first i))
+    ap (option_map size_of)
+    (numbers-back (codes "lines=") (codes "bytes=") size.lines size.bytes (size_line size) refl small few
+    (append_assoc (codes "lines=" ++ decimal size.lines) (codes " bytes=") (decimal size.bytes)))
 
 -- ---- no line has a newline
 

@@ -15,14 +15,9 @@ use Rattle.aud_reader.proofs.LinesLemmas.{pieces_of-first, pieces_of-last, piece
 use Rattle.aud_parts.specs.declared.tap_index.tap_runs.Run.{Run}
 use Rattle.aud_parts.specs.TapRuns.{BeginsWithBytes, IsReadable, line_with_bytes, lines_with_bytes, run_bytes, run_lines, runs_lines}
 use Rattle.aud_parts.specs.Private.RunSteps.{EndsLine, GivesLines, HasFirstText, IsFirstText, front_run}
+use Rattle.aud_parts.proofs.ListSteps.{all-parts}
 use Rattle.aud_parts.proofs.PieceLemmas.{cut-text, all_ended-push, lines-append, pieces-ended, pieces-few, whole-push}
 use Rattle.aud_parts.specs.IndexSoFar.{all_ended}
-
--- ---- lists
-
-pub all-after : {X : Type 0} (P : X → Type 0) (xs ys : List X) → AllByRecursion P (xs ++ ys) → AllByRecursion P ys
-all-after P [] ys all = all
-all-after P (x ∷ xs) ys all = all-after P xs ys all.1
 
 -- two clauses of a call that went well
 pub on_ok-both : {T E P Q R : Type 0} (r : Result T E) → (P → Q → R) → OnOk r P → OnOk r Q → OnOk r R
@@ -147,7 +142,7 @@ goes files run front rest from number cut is parts counts r = record {
         let own = ap length is in
         let counted = r.counted in
         omega (arith, few, size, own, counts, counted);
-    short = all-after IsShort (lines_with_bytes run.number (line_pieces front)) (run_lines files (left_of run from number)) (subst (AllByRecursion IsShort) same r.short);
+    short = (all-parts IsShort (lines_with_bytes run.number (line_pieces front)) (run_lines files (left_of run from number)) (subst (AllByRecursion IsShort) same r.short)).1;
   };
 }
   where

@@ -8,6 +8,7 @@ use Rattle.aud_input.specs.LineName.{name_of}
 use Rattle.aud_parts.specs.declared.tap_index.tap_runs.Run.{Run}
 use Rattle.aud_parts.specs.TapRuns.{TapRuns, run_bytes}
 use Rattle.aud_parts.specs.IndexSoFar.{Indexed, Noted, PlacedLine, byte_count, changed, longer, none_indexed, noted_at, one_or_two, place_in, placed_files, placed_lines, run_of, with_bytes, with_line, with_lines, with_name, with_run}
+use Rattle.aud_parts.proofs.ListSteps.{all-both}
 use Rattle.aud_parts.proofs.PieceLemmas.{bytes-push, pieces-few}
 
 -- the run begins in its file, and its number is no more than the bytes before it are
@@ -89,10 +90,6 @@ starts-placed files file from n (text ∷ texts) few within = (
   record { few = few; within = omega (arith, within) },
   starts-placed files file (from + length text + 1) (n + 1) texts (omega (arith, few)) (omega (arith, within)),
 )
-
-all-both : {X : Type 0} (P : X → Type 0) (xs ys : List X) → AllByRecursion P xs → AllByRecursion P ys → AllByRecursion P (xs ++ ys)
-all-both P [] ys left right = right
-all-both P (x ∷ xs) ys left right = (left.0, all-both P xs ys left.1 right)
 
 starts-files : (front files : List (List ℕ)) (n : ℕ) → n ≤ 1 + byte_count front
     → AllByRecursion (λ (line : PlacedLine). StartsIn (front ++ files) (run_of line)) (placed_files (length front) n files)

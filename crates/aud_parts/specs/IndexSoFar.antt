@@ -2,7 +2,6 @@
 -- `HasRead` alone, and nothing of what stands behind it.
 use Rattle.std.specs.Prelude.{◌≡◌, ℕ, zero, suc, ◌+◌, ◌-◌, ◌^◌, ◌<◌, ◌==◌, ◌&&◌, nat_lt, List, [], ◌∷◌, ◌++◌, length, take, Bool, false, Option, Some, None, is_some, slice_get, slice_index, if◌then◌else◌}
 use Rattle.std.specs.List.{AllByRecursion, flat_map}
-use Rattle.std.specs.Option.{option_map_or}
 use Rattle.std.specs.Str.{bytes_eq}
 use Rattle.aud_base.specs.Places.{places_of}
 use Rattle.aud_tap.specs.Names.{first_index}
@@ -123,10 +122,6 @@ noted_in r = record { taps = r.taps.items; last = r.last }
 
 abbrev pub so_far : TapIndex → Indexed
 so_far s = record { noted = noted_in s.runs; fault = s.fault }
-
--- the tap at this place has this name
-abbrev pub is_at : ℕ → List TapRuns → List ℕ → Bool
-is_at place taps name = option_map_or (λ (tap : TapRuns). bytes_eq tap.name name) (slice_get taps place) false
 
 -- each tap is the first with its name
 abbrev pub AreOnce : List TapRuns → Type 0

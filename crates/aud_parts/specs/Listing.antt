@@ -87,15 +87,18 @@ is_listing l = are_within l && are_formed l && are_new [] l.sessions && is_full 
 abbrev pub number_under : List ℕ → List ℕ → Option ℕ
 number_under key word = option_and_then number_in (after_prefix key word)
 
--- `parts=<number>` and `sessions=<number>`
-abbrev pub counts_in_words : List ℕ × List ℕ → Option (ℕ × ℕ)
-counts_in_words words =
-    option_and_then (λ parts. option_map (λ sessions. (parts, sessions)) (number_under (codes "sessions=") words.1))
-    (number_under (codes "parts=") words.0)
+-- the numbers of two words, after these bytes in the one and after those in the other
+abbrev pub numbers_in_words : List ℕ → List ℕ → List ℕ × List ℕ → Option (ℕ × ℕ)
+numbers_in_words one other words =
+    option_and_then (λ first. option_map (λ second. (first, second)) (number_under other words.1)) (number_under one words.0)
 
--- the first line: how many parts and sessions there are
+-- those of a line
+abbrev pub numbers_under : List ℕ → List ℕ → List ℕ → Option (ℕ × ℕ)
+numbers_under one other line = option_and_then (numbers_in_words one other) (cut_at 32 line)
+
+-- the first line, `parts=<number> sessions=<number>`: how many parts and sessions there are
 abbrev pub counts_in : List ℕ → Option (ℕ × ℕ)
-counts_in line = option_and_then counts_in_words (cut_at 32 line)
+counts_in line = numbers_under (codes "parts=") (codes "sessions=") line
 
 -- the number of one of so many parts, from 1 on, and a pid
 unfoldable pub session_of_words : ℕ → List ℕ × List ℕ → Result ListedSession ListingFault

@@ -13,7 +13,7 @@ use Rattle.aud_input.specs.LineRuns.{capped, count_of}
 use Rattle.aud_parts.specs.declared.named_lines.fault.LinesFault.{LinesFault}
 use Rattle.aud_parts.specs.declared.named_lines.fault.LinesFault.TheVariants.{NoSize, BadLine, OtherCount, Memory}
 use Rattle.aud_parts.specs.Cut.{cut_at, whole_lines, number_in}
-use Rattle.aud_parts.specs.Listing.{number_under}
+use Rattle.aud_parts.specs.Listing.{number_under, numbers_under}
 
 -- ---- the text
 
@@ -58,16 +58,13 @@ are_lines part =
 
 -- ---- the reading
 
--- `lines=<number>` and `bytes=<number>`
-abbrev pub size_in_words : List ℕ × List ℕ → Option Size
-size_in_words words =
-    option_and_then
-    (λ lines. option_map (λ bytes. record { lines = lines; bytes = bytes }) (number_under (codes "bytes=") words.1))
-    (number_under (codes "lines=") words.0)
+-- the size of these counts
+abbrev pub size_of : ℕ × ℕ → Size
+size_of counts = record { lines = counts.0; bytes = counts.1 }
 
--- the size that the first line says
+-- the size that the first line says, `lines=<number> bytes=<number>`
 abbrev pub size_in : List ℕ → Option Size
-size_in line = option_and_then size_in_words (cut_at 32 line)
+size_in line = option_map size_of (numbers_under (codes "lines=") (codes "bytes=") line)
 
 -- so many lines from this one on, where both count from 1
 abbrev pub run_from : ℕ → ℕ → Option LineRun

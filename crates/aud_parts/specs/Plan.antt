@@ -1,7 +1,7 @@
 -- A plan: which part of a recording each session and each client's tap is in. Parts count from 0.
 use Rattle.std.specs.Prelude.{◌≡◌, ◌<◌, ◌≤◌, count_by, ◌==◌, ◌&&◌, ℕ, Bool, true, false, not, List, [], ◌∷◌, ◌++◌, length, flat_map, Option, Some, None, nat_eq, slice_get, if◌then◌else◌}
 use Rattle.std.specs.List.{All, list_all}
-use Rattle.std.specs.Option.{option_and_then, option_flatten}
+use Rattle.std.specs.Option.{option_and_then, option_eq, option_flatten}
 use Rattle.std.specs.Str.{bytes_eq}
 use Rattle.aud_tap.specs.declared.records.NodeRec.{NodeRec}
 use Rattle.aud_tap.specs.declared.taps.Tap.{Tap}
@@ -32,8 +32,7 @@ number_of pids pid = first_index (λ own. bytes_eq own pid) pids
 
 -- there is a part, and it is this one
 abbrev pub is_part : ℕ → Option ℕ → Bool
-is_part part None = false
-is_part part (Some own) = nat_eq own part
+is_part part own = option_eq nat_eq own (Some part)
 
 -- the part of the session; none where there is no such session
 abbrev pub part_of : Plan → Text → Option ℕ

@@ -15,11 +15,9 @@ ghost use Rattle.aud_parts.specs.Private.TapsRead.{HoldsLines, IsReadOf};
 use crate::clients::facts::client_facts;
 use crate::clients::measured::MeasuredClient;
 use crate::tap_index::first_refusal::{FirstRefusal, RefusedLine};
-use crate::tap_index::indexed_taps::IndexedTaps;
-use crate::tap_index::run_source::RunSource;
 use crate::tap_index::tap_lines::client_header;
 use crate::tap_index::tap_reading::{HeldRun, TapRead, hold, read_held, read_tap, tap_named};
-use crate::tap_index::tap_runs::TapRuns;
+use crate::tap_index::tap_runs::{IndexedTaps, RunSource, TapRuns};
 use aud_base::{RunFault, try_map};
 use aud_node::Stream;
 use aud_reader::ReadFault;
@@ -190,7 +188,7 @@ impl<'a> ClientsReading<'a> {
         }
         if bytes > MOST_HELD {
             let mut buffer = Vec::new(self.alloc);
-            let read = read_tap(self.alloc, self.keys, source, &mut buffer, tap)?;
+            let read = read_tap(self.alloc, self.keys, tap, source, &mut buffer)?;
             let told = told_of(self.alloc, self.stream, tap, read)?;
             self.add(told)?;
             return Ok(());

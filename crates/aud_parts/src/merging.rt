@@ -3,13 +3,13 @@ pub mod fault;
 pub mod laws;
 pub mod report_lines;
 
-ghost use Rattle.std.specs.Prelude.{◌≡◌, ◌<◌, ◌+◌, ◌^◌, ◌++◌, [], slice_get, List, ℕ, IfOk, IfSome, IsTrue, OnOk, map, option_map, option_to_list, is_some, length, replicate, take};
+ghost use Rattle.std.specs.Prelude.{◌≡◌, ◌<◌, ◌+◌, ◌^◌, ◌++◌, [], slice_get, List, ℕ, IfOk, IfSome, IsTrue, OnOk, map, option_map, option_to_list, length, replicate, take};
 ghost use Rattle.std.specs.List.{list_all};
 ghost use Rattle.aud_base.specs.Places.{places_of};
 ghost use Rattle.aud_parts.specs.Listing.{are_within, is_within};
 ghost use Rattle.aud_parts.specs.Merged.{told, answer_of, merged, merged_lines, merged_of};
 ghost use Rattle.aud_parts.specs.Private.PartPlaces.{places_by_first};
-ghost use Rattle.aud_parts.specs.Private.Slots.{fault_with, slots_with, slots_of, report_faults, missing_in, lines_in, all_in, left_in, next_after};
+ghost use Rattle.aud_parts.specs.Private.Slots.{fault_with, slots_with, slots_of, report_faults, missing_in, all_in, left_in, next_after};
 
 use crate::listing::by_part::{part_of, pids_by_part, places_by_first};
 use crate::listing::{ListedSession, Listing};
@@ -42,16 +42,6 @@ pub enum MergeAnswer {
 /// Of each part the lines of its report, once it came.
 type Slots<'a> = Vec<Option<Listed<ReportLine<'a>>>>;
 
-/// Whether the part has a report.
-fn has_report(slots: &[Option<Listed<ReportLine<'_>>>], part: usize) -> bool
-    ensures { result ≡ is_some (lines_in slots.now part) }
-{
-    match slots.get(part) {
-        Some(Some(_)) => true,
-        _ => false,
-    }
-}
-
 /// Takes in a report: puts its lines to its part, or tells what is wrong with it.
 #[tactic(auto, unfolding(crate::specs::Merged::told))]
 fn take_report<'a>(
@@ -77,7 +67,7 @@ fn take_report<'a>(
     let Some(part) = part_of(parts, index, lines.as_slice()) else {
         return Ok(Some(ReportFault::OtherSplit));
     };
-    if has_report(slots, part) {
+    if let Some(Some(_)) = slots.get(part) {
         return Ok(Some(ReportFault::Doubled));
     }
     if part < slots.len() {

@@ -6,7 +6,7 @@ pub mod own_records;
 pub mod server_text;
 pub mod text;
 
-ghost use Rattle.std.specs.Prelude.{◌≡◌, ◌++◌, IfOk, OnOk, map, option_to_list};
+ghost use Rattle.std.specs.Prelude.{◌≡◌, IfOk, map};
 ghost use Rattle.std.specs.List.{filter_map};
 ghost use Rattle.aud_parts.specs.PartTaps.{part_taps, part_entries, servers_left, tap_with, IsPartOfEach};
 ghost use Rattle.aud_parts.specs.Private.Kept.{entries_for, records_kept, tap_kept};
@@ -14,8 +14,7 @@ ghost use Rattle.aud_parts.specs.Private.OwnRecords.{has};
 
 use crate::part::audience::Audience;
 use crate::part::entries::part_entries;
-use crate::part::own_records::{own_records, tell_of_own};
-use crate::text_sets::{TextSet, set_of};
+use crate::part::own_records::{TextSet, own_records, set_of, tell_of_own};
 use aud_node::{Logs, Stream};
 use aud_tap::{Records, Tap, Taps, Text};
 use aud_upgrade::{Joins, upgrade};
@@ -77,36 +76,18 @@ fn kept_taps(
 {
     let mut left = Vec::new(alloc);
     for tap in taps {
-        keep_tap(alloc, stream, own, audience, came, tap, &mut left)?;
+        let Some(records) = kept_records(alloc, stream, own, audience, came, &tap.records)? else {
+            continue;
+        };
+        let name = tap.name.share()?;
+        let version = tap.version;
+        left.push(Tap {
+            name,
+            version,
+            records,
+        })?;
     }
     Ok(Taps::new(left))
-}
-
-/// Adds what is left of the tap, if it is kept.
-fn keep_tap(
-    alloc: Global,
-    stream: &Stream<'_>,
-    own: &TextSet,
-    audience: &Audience,
-    came: &[u64],
-    tap: &Tap,
-    left: &mut Vec<Tap>,
-) -> Result<(), AllocError>
-    ensures { OnOk result (left.new.items ≡ left.old.items ++ option_to_list (tap_kept
-        (has own.now) (entries_for (has audience.now.namespaces) (has audience.now.rooms) came.now
-        stream.now) tap.now)) }
-{
-    let name = tap.name.share()?;
-    let version = tap.version;
-    let Some(records) = kept_records(alloc, stream, own, audience, came, &tap.records)? else {
-        return Ok(());
-    };
-    left.push(Tap {
-        name,
-        version,
-        records,
-    })?;
-    Ok(())
 }
 
 /// What is left of a tap's records; none, where the tap isn't kept.

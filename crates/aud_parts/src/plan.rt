@@ -7,14 +7,15 @@ pub mod placing;
 pub mod planning;
 pub mod sessions;
 pub mod sized;
-pub mod together;
 pub mod units;
 
-ghost use Rattle.std.specs.Prelude.{◌≡◌, IfOk, count_by, map, nat_eq};
+ghost use Rattle.std.specs.Prelude.{◌≡◌, IfOk, count_by, nat_eq};
+ghost use Rattle.aud_parts.specs.Together.{PlansKeepTogether};
 ghost use Rattle.aud_parts.specs.Plan.{came_in, has_client, is_in, is_part, part_of, pids_in};
 
 use crate::clients::measured::MeasuredClient;
 use crate::plan::sessions::Sessions;
+use aud_tap::Text;
 use std::alloc::{AllocError, Global};
 
 /// Which part of a recording each session and each client's tap is in. Parts count from 0, as many as there are
@@ -45,19 +46,19 @@ impl Plan {
     pub fn is_in(&self, part: usize, pid: &str) -> bool
         ensures { result ≡ is_in self.now part pid.now }
     {
-        is_part(part, self.part_of(pid))
+        self.part_of(pid) == Some(part)
     }
 
-    /// The pids of the part's sessions, borrowed, in the order of the report.
-    pub fn pids_in(&self, alloc: Global, part: usize) -> Result<Vec<&str>, AllocError>
-        ensures { IfOk result (λ pids. map (λ pid. pid.now) pids.items ≡ pids_in self.now part) }
+    /// The pids of the part's sessions, copied, in the order of the report.
+    pub fn pids_in(&self, alloc: Global, part: usize) -> Result<Vec<Text>, AllocError>
+        ensures { IfOk result (λ pids. pids.items ≡ pids_in self.now part) }
     {
         let mut pids = Vec::new(alloc);
         let count = self.sessions.len().min(self.parts.len());
         for number in 0..count {
             let pid = self.sessions.pid(number);
             if self.parts[number] == part {
-                pids.push(pid)?;
+                pids.push(Text::new(alloc, pid)?)?;
             }
         }
         Ok(pids)
@@ -68,7 +69,7 @@ impl Plan {
         ensures { result ≡ has_client self.now part number }
     {
         match self.clients.get(number) {
-            Some(own) => is_part(part, *own),
+            Some(own) => *own == Some(part),
             None => false,
         }
     }
@@ -105,17 +106,16 @@ impl Plan {
     {
         self.clients
             .iter()
-            .filter(|own| is_part(part, **own))
+            .filter(|own| **own == Some(part))
             .count()
     }
 }
 
-/// Whether there is a part, and it is this one.
-fn is_part(part: usize, own: Option<usize>) -> bool
-    ensures { result ≡ is_part part own }
-{
-    match own {
-        Some(own) => own == part,
-        None => false,
-    }
-}
+/// A plan keeps together what has to stay together: a law of [`plan_parts`](crate::plan_parts).
+///
+/// For whatever taps: a closed plan that was made of those of the stream and of the nodes, and of what the clients' taps
+/// tell, has the sessions of all of them in the order of the report, and of each part the sessions are such that the part
+/// keeps the verdicts on them.
+pub fn plans_keep_together()
+    ensures { PlansKeepTogether }
+{}

@@ -16,10 +16,9 @@ ghost use Rattle.aud_parts.specs.Private.ServerSteps.{AddsServer, IsHeaderOf, st
 
 use crate::tap_index::first_refusal::{FirstRefusal, RefusedLine};
 use crate::tap_index::run_lines::{RunLines, first_line};
-use crate::tap_index::run_source::RunSource;
 use crate::tap_index::tap_lines::{lines_past, push_numbers};
 use crate::tap_index::tap_reading::{TapRead, read_tap, tap_named};
-use crate::tap_index::tap_runs::TapRuns;
+use crate::tap_index::tap_runs::{RunSource, TapRuns};
 use aud_base::RunFault;
 use aud_input::LineRuns;
 use aud_reader::{BundleReader, InputCode, Line, ReadFault, parse_line};
@@ -59,7 +58,7 @@ fn header_in(
 ) -> Result<Option<(TapKind, Version)>, AllocError>
     ensures { IfOk result (λ header. header ≡ header_for name.now line.now) }
 {
-    match &parse_line(alloc, keys, line) {
+    match parse_line(alloc, keys, line) {
         Ok((own, rec)) => {
             let Rec::Header { of, v } = rec else {
                 return Ok(None);
@@ -67,7 +66,7 @@ fn header_in(
             if name != own.as_str() {
                 return Ok(None);
             }
-            Ok(Some((*of, *v)))
+            Ok(Some((of, v)))
         }
         Err(ReadFault::Input(_, _)) => Ok(None),
         Err(ReadFault::Memory) => Err(AllocError),
@@ -78,9 +77,9 @@ fn header_in(
 fn first_header<S: RunSource>(
     alloc: Global,
     keys: RandomState,
+    tap: &TapRuns,
     source: &mut S,
     buffer: &mut Vec<u8>,
-    tap: &TapRuns,
 ) -> Result<Option<Header>, RunFault>
     ensures kind { (files : List (List ℕ)) → S.files source.old ≡ Some files
         → MayBeRead files tap.now
@@ -179,23 +178,6 @@ fn read_lines(
     Ok(None)
 }
 
-/// Adds what the header says that its tap was put on.
-fn push_kind(kinds: &mut Vec<Option<TapKind>>, header: &Option<Header>) -> Result<(), AllocError>
-    ensures { OnOk result (kinds.new.items
-        ≡ kinds.old.items ++ option_map (λ h. h.of) header.now ∷ []) }
-{
-    match header {
-        Some(header) => {
-            kinds.push(Some(header.of))?;
-            Ok(())
-        }
-        None => {
-            kinds.push(None)?;
-            Ok(())
-        }
-    }
-}
-
 /// What is read so far.
 #[derive(Drop)]
 struct Reading {
@@ -233,7 +215,7 @@ impl Reading {
             → AddsServer files tap.now self.old self.new) }
         ensures source { S.files source.new ≡ S.files source.old }
     {
-        let TapRead { read, lines, .. } = read_tap(self.alloc, self.keys, source, buffer, tap)?;
+        let TapRead { read, lines, .. } = read_tap(self.alloc, self.keys, tap, source, buffer)?;
         match read {
             Ok(read) => {
                 let name = Text::new(self.alloc, tap.name())?;
@@ -309,10 +291,14 @@ impl Reading {
             self.new.lines.items) }
         ensures source { S.files source.new ≡ S.files source.old }
     {
-        let header = first_header(self.alloc, self.keys, source, buffer, tap)?;
-        push_kind(&mut self.kinds, &header)?;
-        let Some(header) = header else {
-            return Ok(None);
+        let Some(header) = first_header(self.alloc, self.keys, tap, source, buffer)? else {
+            return match self.kinds.push(None) {
+                Ok(()) => Ok(None),
+                Err(_) => Err(RunFault::Memory),
+            };
+        };
+        let Ok(()) = self.kinds.push(Some(header.of)) else {
+            return Err(RunFault::Memory);
         };
         match header.of {
             TapKind::Stream if self.has_stream => Ok(Some(RefusedLine {

@@ -1,18 +1,16 @@
 //! Where the lines of each tap stand in the files of an input.
 pub mod first_refusal;
-pub mod indexed_taps;
 pub mod run_lines;
-pub mod run_source;
 pub mod tap_lines;
 pub mod tap_reading;
 pub mod tap_runs;
 
-ghost use Rattle.std.specs.Prelude.{◌≡◌, ◌+◌, ◌^◌, ◌<◌, ◌++◌, ◌∷◌, [], List, ℕ, length, take, false, OnOk};
+ghost use Rattle.std.specs.Prelude.{◌≡◌, ◌+◌, ◌^◌, ◌<◌, ◌++◌, ◌∷◌, [], List, ℕ, length, false, OnOk};
 ghost use Rattle.std.specs.List.{All};
 ghost use Rattle.aud_reader.specs.Lines.{has_newline, without_return};
 ghost use Rattle.aud_parts.specs.TapRuns.{MayBeRead};
 ghost use Rattle.aud_parts.specs.FileLines.{AreTapsOf, file_lines, front_refusal};
-ghost use Rattle.aud_parts.specs.IndexSoFar.{HasRead, IsBegun, IsCounted, KeepsPlaces, ReadSoFar, line_count, so_far, with_line};
+ghost use Rattle.aud_parts.specs.IndexSoFar.{HasRead, IsBegun, IsCounted, KeepsPlaces, line_count, so_far, with_line};
 ghost use Rattle.aud_parts.specs.Private.IndexSteps.{HasEnded, HasEndedLast, Looks, MayEnd, placed_at};
 
 use crate::tap_index::tap_runs::{Run, RunsByTap, TapRuns};
@@ -39,18 +37,6 @@ struct Begun {
 }
 
 impl Begun {
-    /// A line that begins with a file.
-    fn new(alloc: Global) -> Begun
-        ensures { IsBegun result 0 [] }
-    {
-        Begun {
-            from: 0,
-            size: 0,
-            front: Vec::new(alloc),
-            returns: false,
-        }
-    }
-
     /// More bytes of the line.
     fn add(&mut self, bytes: &[u8]) -> Result<(), AllocError>
         ensures { (from : ℕ) (text : List ℕ) → length text + length bytes.now < 2 ^ 64
@@ -112,7 +98,12 @@ impl TapIndex {
             fault: None,
             file: 0,
             number: 1,
-            begun: Begun::new(alloc),
+            begun: Begun {
+                from: 0,
+                size: 0,
+                front: Vec::new(alloc),
+                returns: false,
+            },
         }
     }
 
@@ -124,20 +115,11 @@ impl TapIndex {
     {
         let mut left = piece;
         'lines: while let Some((front, others)) = next_line(left) {
-            self.add_line(front)?;
+            self.begun.add(front)?;
+            self.end_line()?;
             left = others;
         }
         self.begun.add(left)
-    }
-
-    /// Adds the last bytes of the line that has begun, in which no newline stands, and ends it.
-    fn add_line(&mut self, front: &[u8]) -> Result<(), AllocError>
-        ensures { (files : List (List ℕ)) (bytes : List ℕ) → has_newline front.now ≡ false
-            → IsCounted files (bytes ++ (front.now ++ 10 ∷ [])) → ReadSoFar self.old files bytes
-            → OnOk result (ReadSoFar self.new files (bytes ++ (front.now ++ 10 ∷ []))) }
-    {
-        self.begun.add(front)?;
-        self.end_line()
     }
 
     /// Ends the file, and with it the line that has begun, if it has bytes.
@@ -214,7 +196,7 @@ impl TapIndex {
         ensures runs { (files : List (List ℕ)) → HasRead self.now files [] → IsCounted files []
             → All (MayBeRead files) result.now }
     {
-        self.runs.taps()
+        &self.runs.taps
     }
 
     /// The first line that is too long, or that begins with no tap's name, where there is one; lines count from 1 over

@@ -9,7 +9,7 @@ use thiserror::Error;
 ///
 /// `NoListing`, `NoPart` and `NoPid` come at the first line at fault; `CutShort`, `PidTwice` and `EmptyPart`, in this
 /// order, where no line is.
-#[derive(Clone, Copy, Debug, PartialEq, Eq, Drop, Error)]
+#[derive(Debug, Drop, Error)]
 pub enum ListingFault {
     /// The first line isn't `parts=<number> sessions=<number>`, or a later one not `<number> <pid>`.
     #[error("is no list of the sessions of a split")]

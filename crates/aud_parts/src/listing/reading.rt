@@ -1,7 +1,7 @@
 //! The reading of the text that says which part has which session.
-ghost use Rattle.std.specs.Prelude.{◌≡◌, [], IfOk, IsTrue, map};
+ghost use Rattle.std.specs.Prelude.{◌≡◌, [], IfOk, IsTrue};
 ghost use Rattle.std.specs.List.{list_all};
-ghost use Rattle.aud_parts.specs.Listing.{Gives, are_new, are_within, checked, counts_in, has_some, is_full, is_listing, is_within, listing_after, listing_in, listing_of, number_under, session_in, session_of_words, sessions_in};
+ghost use Rattle.aud_parts.specs.Listing.{Gives, are_new, are_within, is_full, is_listing, is_within, listing_in, listing_of, number_under, numbers_under, session_in, session_of_words, sessions_in};
 
 use crate::cut::{LentBytes, cut_at, number_in, pid_in, whole_lines};
 use crate::listing::by_part::pids_by_part;
@@ -19,14 +19,14 @@ pub(crate) fn number_under(key: &[u8], word: &[u8]) -> Option<usize>
     number_in(word.strip_prefix(key)?)
 }
 
-/// How many parts and sessions the first line says that there are.
-fn counts_in(line: &[u8]) -> Option<(usize, usize)>
-    ensures { result ≡ counts_in line.now }
+/// The numbers of a line's two words, after these bytes in the one and after those in the other.
+pub(crate) fn numbers_under(one: &[u8], other: &[u8], line: &[u8]) -> Option<(usize, usize)>
+    ensures { result ≡ numbers_under one.now other.now line.now }
 {
     let (left, right) = cut_at(b' ', line)?;
-    let parts = number_under(b"parts=", left)?;
-    let sessions = number_under(b"sessions=", right)?;
-    Some((parts, sessions))
+    let first = number_under(one, left)?;
+    let second = number_under(other, right)?;
+    Some((first, second))
 }
 
 /// The session of a line: its part, one of so many, and its pid.
@@ -85,18 +85,6 @@ fn are_new(alloc: Global, keys: RandomState, sessions: &[ListedSession]) -> Resu
     Ok(true)
 }
 
-/// Whether each of the parts has a pid.
-fn are_some(parts: &[Vec<Text>]) -> bool
-    ensures { result ≡ list_all has_some (map (λ part. part.items) parts.now) }
-{
-    for pids in parts {
-        if pids.is_empty() {
-            return false;
-        }
-    }
-    true
-}
-
 /// Whether each part has a session, or there is one part and no session.
 fn is_full(alloc: Global, listing: &Listing) -> Result<bool, AllocError>
     requires { IsTrue (are_within listing.now) }
@@ -108,56 +96,16 @@ fn is_full(alloc: Global, listing: &Listing) -> Result<bool, AllocError>
     if listing.parts > listing.sessions.as_slice().len() {
         return Ok(false);
     }
-    let parts = pids_by_part(alloc, listing)?;
-    Ok(are_some(&parts))
+    for pids in &pids_by_part(alloc, listing)? {
+        if pids.is_empty() {
+            return Ok(false);
+        }
+    }
+    Ok(true)
 }
 
-/// Whether the listing has so many sessions, no pid twice and no empty part; else what is wrong with it.
-#[tactic(auto, unfolding(crate::specs::Listing::checked))]
-fn check(
-    alloc: Global,
-    keys: RandomState,
-    count: usize,
-    listing: &Listing,
-) -> Result<(), ListingFault>
-    requires { IsTrue (are_within listing.now) }
-    ensures { Gives (λ (_ : Unit). listing.now) result (checked count listing.now) }
-{
-    if listing.sessions.as_slice().len() != count {
-        return Err(ListingFault::CutShort);
-    }
-    if !are_new(alloc, keys, listing.sessions.as_slice())? {
-        return Err(ListingFault::PidTwice);
-    }
-    if !is_full(alloc, listing)? {
-        return Err(ListingFault::EmptyPart);
-    }
-    Ok(())
-}
-
-/// The listing of a first line with these counts, and of the lines after it.
-#[tactic(auto, unfolding(crate::specs::Listing::listing_after))]
-fn listing_after(
-    alloc: Global,
-    keys: RandomState,
-    parts: usize,
-    count: usize,
-    lines: &[LentBytes<'_>],
-) -> Result<Listing, ListingFault>
-    ensures { Gives (λ l. l) result (listing_after lines.now (parts, count)) }
-{
-    let sessions = sessions_in(alloc, parts, lines)?;
-    let listing = Listing {
-        parts,
-        sessions: Listed::new(sessions),
-    };
-    match check(alloc, keys, count, &listing) {
-        Ok(()) => Ok(listing),
-        Err(fault) => Err(fault),
-    }
-}
-
-/// The listing of the lines.
+/// The listing of the lines, if it has as many sessions as the first of them says, no pid twice and no empty part.
+#[tactic(auto, unfolding(crate::specs::Listing::listing_after, crate::specs::Listing::checked))]
 fn listing_in(
     alloc: Global,
     keys: RandomState,
@@ -168,10 +116,25 @@ fn listing_in(
     let Some((first, rest)) = lines.split_first() else {
         return Err(ListingFault::NoListing);
     };
-    match counts_in(first.as_slice()) {
-        Some((parts, count)) => listing_after(alloc, keys, parts, count, rest),
-        None => Err(ListingFault::NoListing),
+    let first = first.as_slice();
+    let Some((parts, count)) = numbers_under(b"parts=", b"sessions=", first) else {
+        return Err(ListingFault::NoListing);
+    };
+    let sessions = sessions_in(alloc, parts, rest)?;
+    let listing = Listing {
+        parts,
+        sessions: Listed::new(sessions),
+    };
+    if listing.sessions.as_slice().len() != count {
+        return Err(ListingFault::CutShort);
     }
+    if !are_new(alloc, keys, listing.sessions.as_slice())? {
+        return Err(ListingFault::PidTwice);
+    }
+    if !is_full(alloc, &listing)? {
+        return Err(ListingFault::EmptyPart);
+    }
+    Ok(listing)
 }
 
 /// The listing that a text is, as [`listing_text`](crate::listing_text) writes it. Pids are copied, and hashed with

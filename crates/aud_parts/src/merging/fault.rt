@@ -2,7 +2,7 @@
 use thiserror::Error;
 
 /// What is wrong with a report, in words that follow its name.
-#[derive(Clone, Copy, Debug, PartialEq, Eq, Drop, Error)]
+#[derive(Clone, Copy, Debug, Drop, Error)]
 pub enum ReportFault {
     /// It is the line that stands for an input of which a line is refused.
     #[error("is no report: a line of its input was refused")]
@@ -19,7 +19,7 @@ pub enum ReportFault {
 }
 
 /// What keeps reports from being merged.
-#[derive(Clone, Copy, Debug, PartialEq, Eq, Drop)]
+#[derive(Drop)]
 pub enum MergeFault {
     /// This is wrong with the report of this number. Numbers count from 0, in the order in which reports are given.
     Report(usize, ReportFault),

@@ -1,7 +1,7 @@
 //! A report, read again.
 ghost use Rattle.std.specs.Prelude.{◌≡◌, IfOk, string_bytes, option_map};
 ghost use Rattle.std.specs.List.{list_all};
-ghost use Rattle.aud_parts.specs.ReportLines.{answer_in, report_in, report_line, report_lines, report_of, report_of_lines, says_yes, totals};
+ghost use Rattle.aud_parts.specs.ReportLines.{report_in, report_line, report_lines, report_of, says_yes, totals};
 
 use crate::cut::{LentBytes, cut_at, pid_in, whole_lines};
 use aud_base::{Bytes, Listed};
@@ -25,26 +25,16 @@ impl<'a> Model for ReportLine<'a> {
     ghost view = { λ l. record { pid = l.pid.now; is_yes = l.is_yes; text = l.text.now } };
 }
 
-/// The answer that a line begins with.
-fn answer_in(word: &[u8]) -> Option<bool>
-    ensures { result ≡ answer_in word.now }
-{
-    if word == b"yes".as_slice() {
-        Some(true)
-    } else if word == b"no".as_slice() {
-        Some(false)
-    } else {
-        None
-    }
-}
-
 /// The line of a session: `yes` or `no`, a pid, and more.
 fn report_line(text: &[u8]) -> Option<ReportLine<'_>>
     ensures { result ≡ report_line text.now }
 {
     let (word, rest) = cut_at(b' ', text)?;
     let (pid, _more) = cut_at(b' ', rest)?;
-    let is_yes = answer_in(word)?;
+    let is_yes = word == b"yes".as_slice();
+    if !is_yes && word != b"no".as_slice() {
+        return None;
+    }
     let pid = pid_in(pid)?;
     Some(ReportLine { pid, is_yes, text })
 }
@@ -85,13 +75,17 @@ fn totals(alloc: Global, lines: &[ReportLine<'_>]) -> Result<String, AllocError>
     Ok(out)
 }
 
-/// The lines of sessions, where the last line has their counts.
-fn report_of_lines<'a>(
+/// The lines of the sessions of a report, of which the last line has their counts; `None` where the text is no whole
+/// report.
+pub(crate) fn report_in<'a>(
     alloc: Global,
-    texts: &[LentBytes<'a>],
+    text: &'a [u8],
 ) -> Result<Option<Listed<ReportLine<'a>>>, AllocError>
-    ensures { IfOk result (λ lines. lines ≡ report_of_lines texts.now) }
+    ensures { IfOk result (λ lines. lines ≡ report_in text.now) }
 {
+    let Some(texts) = whole_lines(alloc, text)? else {
+        return Ok(None);
+    };
     let Some((last, front)) = texts.split_last() else {
         return Ok(None);
     };
@@ -103,19 +97,6 @@ fn report_of_lines<'a>(
         Ok(Some(Listed::new(lines)))
     } else {
         Ok(None)
-    }
-}
-
-/// The lines of the sessions of a report; `None` where the text is no whole report.
-pub(crate) fn report_in<'a>(
-    alloc: Global,
-    text: &'a [u8],
-) -> Result<Option<Listed<ReportLine<'a>>>, AllocError>
-    ensures { IfOk result (λ lines. lines ≡ report_in text.now) }
-{
-    match whole_lines(alloc, text)? {
-        Some(texts) => report_of_lines(alloc, &texts),
-        None => Ok(None),
     }
 }
 

@@ -2,12 +2,12 @@
 ghost use Rattle.std.specs.Prelude.{◌≡◌};
 ghost use Rattle.aud_parts.specs.declared.named_lines.fault.LinesFault.TheVariants.{Memory};
 
-use std::alloc::{AllocError, AllocFailed};
+use std::alloc::AllocError;
 use thiserror::Error;
 
 /// Why a text doesn't say from which lines of a recording those of a part come, in words that follow its name; or
 /// running out of memory.
-#[derive(Clone, Copy, Debug, PartialEq, Eq, Drop, Error)]
+#[derive(Debug, Drop, Error)]
 pub enum LinesFault {
     /// The first line isn't `lines=<number> bytes=<number>`.
     #[error("line 1: is not lines=<number> bytes=<number>")]
@@ -28,14 +28,6 @@ impl From<AllocError> for LinesFault {
     ghost from_gives = { λ _ e. e ≡ Memory };
 
     fn from(_: AllocError) -> LinesFault {
-        LinesFault::Memory
-    }
-}
-
-impl<T: Drop> From<AllocFailed<T>> for LinesFault {
-    ghost from_gives = { λ _ e. e ≡ Memory };
-
-    fn from(_: AllocFailed<T>) -> LinesFault {
         LinesFault::Memory
     }
 }

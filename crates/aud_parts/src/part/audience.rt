@@ -6,8 +6,7 @@ ghost use Rattle.aud_parts.specs.MadeOther.{any_record};
 ghost use Rattle.aud_parts.specs.Part.{opens_nsp, grants};
 ghost use Rattle.aud_parts.specs.Private.OwnRecords.{has, is_for, passes_own};
 
-use crate::part::own_records::names_own;
-use crate::text_sets::{TextSet, has_any, put};
+use crate::part::own_records::{TextSet, has_any, names_own, put};
 use aud_tap::{NodeRec, Records, StreamRec, Tap};
 use std::alloc::{AllocError, Global};
 use std::collections::HashSet;

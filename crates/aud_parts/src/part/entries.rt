@@ -5,9 +5,9 @@ ghost use Rattle.aud_tap.specs.declared.records.StreamRec.TheVariants.{Other};
 ghost use Rattle.aud_node.specs.Recoverable.{is_recoverable};
 ghost use Rattle.aud_node.specs.Stream.{entry};
 ghost use Rattle.aud_parts.specs.Private.Kept.{entries_for};
+ghost use Rattle.aud_parts.specs.Private.Marks.{AreMarked, with_mark};
 ghost use Rattle.aud_parts.specs.Private.OwnRecords.{has, is_for};
 
-use crate::marks::marks_of;
 use crate::part::audience::Audience;
 use aud_node::Stream;
 use aud_tap::{StreamRec, StreamRecs};
@@ -30,39 +30,57 @@ pub fn part_entries(
     let mut left = StreamRecs::new(alloc);
     for number in 0..entries.len() {
         let entry = entries.at(number);
-        let stays = stays_event(stream, audience, marks[number], number as u64 + 1, entry);
-        left.push(entry_left(alloc, stays, entry)?)?;
+        let position = number as u64 + 1;
+        let own = entry_left(alloc, stream, audience, marks[number], position, entry)?;
+        left.push(own)?;
     }
     Ok(left)
 }
 
-/// Whether the entry at this position, which counts from 1, stays an event; the flag says whether it came to a client of
-/// the part.
-fn stays_event(
+/// What is left of the entry at this position, which counts from 1: a copy where it is recoverable, and is for the
+/// audience or came to a client of the part, as the flag says; else an entry of its offset that is no event. Texts are
+/// shared.
+fn entry_left(
+    alloc: Global,
     stream: &Stream<'_>,
     audience: &Audience,
     came: bool,
     position: u64,
     event: &StreamRec,
-) -> bool
+) -> Result<StreamRec, AllocError>
     requires { entry stream.now position ≡ Some event.now }
-    ensures { result ≡ (is_recoverable event.now && (is_for (has audience.now.namespaces)
-        (has audience.now.rooms) event.now || came)) }
+    ensures { IfOk result (λ left. left ≡ (if is_recoverable event.now
+        && (is_for (has audience.now.namespaces) (has audience.now.rooms) event.now || came)
+        then event.now else Other (offset_of event.now))) }
 {
-    if !stream.recoverable(position) {
-        return false;
+    if stream.recoverable(position) && (came || audience.is_for(event)) {
+        return copied_entry(alloc, event);
     }
-    came || audience.is_for(event)
+    let off = event.offset().share()?;
+    Ok(StreamRec::Other { off })
 }
 
-/// A copy of the entry, if it is kept; else an entry of its offset that is no event. Texts are shared.
-fn entry_left(alloc: Global, kept: bool, entry: &StreamRec) -> Result<StreamRec, AllocError>
-    ensures { IfOk result (λ left. left
-        ≡ (if kept then entry.now else Other (offset_of entry.now))) }
+/// Of each of so many entries, whether it stands at one of these positions, which count from 1. What is past the last
+/// entry marks none.
+fn marks_of(alloc: Global, count: usize, positions: &[u64]) -> Result<Vec<bool>, AllocError>
+    ensures { IfOk result (λ marks. AreMarked count positions.now marks.items) }
 {
-    if kept {
-        return copied_entry(alloc, entry);
+    let mut marks = vec![in alloc; false; count]?;
+    for position in positions {
+        mark(&mut marks, *position);
     }
-    let off = entry.offset().share()?;
-    Ok(StreamRec::Other { off })
+    Ok(marks)
+}
+
+/// Marks the entry at the position, if there is one.
+fn mark(marks: &mut Vec<bool>, position: u64)
+    ensures { marks.new.items ≡ with_mark position marks.old.items }
+{
+    if position == 0 {
+        return;
+    }
+    let number = position as usize - 1;
+    if number < marks.len() {
+        marks[number] = true;
+    }
 }

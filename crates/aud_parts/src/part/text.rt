@@ -12,16 +12,13 @@ use crate::part::lines::server_lines;
 use crate::part::part_taps;
 use crate::part::server_text::ServerText;
 use crate::plan::Plan;
-use crate::tap_index::indexed_taps::IndexedTaps;
 use crate::tap_index::run_lines::RunLines;
-use crate::tap_index::run_source::RunSource;
 use crate::tap_index::tap_lines::{client_header, lines_past, push_ended, push_numbers};
-use crate::tap_index::tap_runs::TapRuns;
+use crate::tap_index::tap_runs::{IndexedTaps, RunSource, TapRuns};
 use aud_base::{RunFault, Watched, try_map, write_out};
 use aud_input::LineRuns;
 use aud_node::Logs;
 use aud_reader::ReadFault;
-use aud_tap::{Taps, Text};
 use std::alloc::{AllocError, Global};
 use std::io::Write;
 use std::thread::Threads;
@@ -52,21 +49,12 @@ impl<'a> Planned<'a> {
         }
     }
 
-    /// The part's taps of the stream and of the nodes.
-    fn taps(&self, part: usize) -> Result<Taps, AllocError> {
-        let came = self.plan.came_in(self.alloc, self.clients, part)?;
-        let mut pids = Vec::new(self.alloc);
-        let borrowed = self.plan.pids_in(self.alloc, part)?;
-        for pid in &borrowed {
-            pids.push(Text::new(self.alloc, pid)?)?;
-        }
-        part_taps(self.alloc, self.logs, &pids, &came)
-    }
-
     /// The lines of the part's taps of the stream and of the nodes, and those that they come from, where these are those
     /// of the logs' taps. Parts count from 0.
     pub fn servers(&self, part: usize, lines: &[LineRuns]) -> Result<ServerText, ReadFault> {
-        let taps = self.taps(part)?;
+        let pids = self.plan.pids_in(self.alloc, part)?;
+        let came = self.plan.came_in(self.alloc, self.clients, part)?;
+        let taps = part_taps(self.alloc, self.logs, &pids, &came)?;
         let lines = server_lines(self.alloc, self.logs.taps(), lines, taps.as_slice())?;
         ServerText::of(self.alloc, &taps, lines)
     }
@@ -130,7 +118,7 @@ impl<'a> Planned<'a> {
                 write_server(servers, tap.name(), output, &mut runs)?;
             } else {
                 if self.plan.has_client(part, client) {
-                    write_client(self.alloc, source, &mut buffer, tap, output, &mut runs)?;
+                    write_client(self.alloc, tap, source, &mut buffer, output, &mut runs)?;
                 }
                 client += 1;
             }
@@ -162,9 +150,9 @@ fn write_server<W: Write>(
 /// numbers of all of them.
 fn write_client<S: RunSource, W: Write>(
     alloc: Global,
+    tap: &TapRuns,
     source: &mut S,
     buffer: &mut Vec<u8>,
-    tap: &TapRuns,
     output: &mut Watched<W>,
     runs: &mut LineRuns,
 ) -> Result<(), RunFault>

@@ -4,7 +4,6 @@ ghost use Rattle.std.specs.List.{list_all};
 ghost use Rattle.aud_base.specs.OneForEach.{OneForEach};
 ghost use Rattle.aud_tap.specs.declared.taps.Tap.{Tap};
 ghost use Rattle.aud_node.specs.Cluster.{node_recs};
-ghost use Rattle.aud_parts.specs.LeftOut.{keeps_record};
 ghost use Rattle.aud_parts.specs.Plan.{client_pids, has_its_part, is_in};
 ghost use Rattle.aud_parts.specs.Plan.{HasRoom, IsClientIn, IsClosed, StaysWhole};
 
@@ -12,7 +11,7 @@ use crate::clients::measured::MeasuredClient;
 use crate::plan::Plan;
 use crate::plan::fault::{MAX_CLIENT_TAPS, MAX_SESSIONS};
 use crate::plan::units::is_started;
-use aud_tap::{NodeRec, NodeRecs, Records, Tap, Text};
+use aud_tap::{NodeRecs, Records, Tap, Text};
 
 /// Whether each session has one of the parts, each client's tap has that of all its sessions, and one part has all
 /// sessions of each log that doesn't begin with a `start`.
@@ -28,7 +27,12 @@ pub(crate) fn is_closed(taps: &[Tap], clients: &[MeasuredClient], plan: &Plan) -
     if !are_clients_in(clients, plan) {
         return false;
     }
-    stay_whole(taps, plan)
+    for tap in taps {
+        if !stays_whole(tap, plan) {
+            return false;
+        }
+    }
+    true
 }
 
 /// Whether no part has more sessions, or more clients' taps, than a bundle may have.
@@ -84,42 +88,29 @@ fn is_client_in(client: &MeasuredClient, plan: &Plan, part: Option<usize>) -> bo
 fn are_in(plan: &Plan, part: usize, pids: &[Text]) -> bool
     ensures { result ≡ list_all (is_in plan.now part) pids.now }
 {
-    for pid in pids {
+    pids.iter().all(|pid| plan.is_in(part, pid.as_str()))
+}
+
+/// Whether one part has all sessions of the tap's log, if it is a node's and doesn't begin with a `start`.
+fn stays_whole(tap: &Tap, plan: &Plan) -> bool
+    ensures { result ≡ true → StaysWhole plan.now (node_recs (Some tap.now.records)) }
+{
+    let Records::Node(recs) = &tap.records else {
+        return true;
+    };
+    if is_started(recs) {
+        return true;
+    }
+    let part = first_part(recs, plan);
+    for number in 0..recs.len() {
+        let Some(pid) = recs[number].pid() else {
+            continue;
+        };
         if !plan.is_in(part, pid.as_str()) {
             return false;
         }
     }
     true
-}
-
-/// Whether one part has all sessions of each log that doesn't begin with a `start`.
-fn stay_whole(taps: &[Tap], plan: &Plan) -> bool
-    ensures { result ≡ true
-        → All (λ (tap : Tap). StaysWhole plan.now (node_recs (Some tap.records))) taps.now }
-{
-    for tap in taps {
-        if !stays_whole(tap, plan) {
-            return false;
-        }
-    }
-    true
-}
-
-/// The same of this tap's log, if it is a node's.
-fn stays_whole(tap: &Tap, plan: &Plan) -> bool
-    ensures { result ≡ true → StaysWhole plan.now (node_recs (Some tap.now.records)) }
-{
-    match &tap.records {
-        Records::Stream(_) => true,
-        Records::Node(recs) => {
-            if is_started(recs) {
-                return true;
-            }
-            let part = first_part(recs, plan);
-            names_only(recs, plan, part)
-        }
-        Records::Client(_) => true,
-    }
 }
 
 /// The part of the first session that the log names; the first part where it names none.
@@ -132,26 +123,4 @@ fn first_part(recs: &NodeRecs, plan: &Plan) -> usize {
         }
     }
     0
-}
-
-/// Whether each record names no session, or one that has the part.
-fn names_only(recs: &NodeRecs, plan: &Plan, part: usize) -> bool
-    ensures { result ≡ list_all (keeps_record (is_in plan.now part)) recs.now }
-{
-    for number in 0..recs.len() {
-        if !is_kept(&recs[number], plan, part) {
-            return false;
-        }
-    }
-    true
-}
-
-/// Whether the record names no session, or one that has the part.
-fn is_kept(rec: &NodeRec, plan: &Plan, part: usize) -> bool
-    ensures { result ≡ keeps_record (is_in plan.now part) rec.now }
-{
-    match rec.pid() {
-        Some(pid) => plan.is_in(part, pid.as_str()),
-        None => true,
-    }
 }

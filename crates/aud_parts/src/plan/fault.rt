@@ -15,7 +15,7 @@ pub(crate) const MAX_SESSIONS: usize = 65_536;
 pub(crate) const MAX_NODE_TAPS: u32 = 64;
 
 /// A limit of a part, in words: that of a bundle.
-#[derive(Clone, Copy, Debug, PartialEq, Eq, Drop, Error)]
+#[derive(Debug, Drop, Error)]
 pub enum Limit {
     /// A part has at most 4,096 taps of clients.
     #[error("4,096 taps of clients")]

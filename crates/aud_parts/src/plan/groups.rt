@@ -1,4 +1,5 @@
 //! Numbers in groups.
+use aud_base::numbers_to;
 use std::alloc::{AllocError, Global};
 
 /// Numbers from 0 on, in groups. A group is known by the least of its numbers.
@@ -11,22 +12,20 @@ pub(crate) struct Groups {
 impl Groups {
     /// So many numbers, each a group of its own.
     pub(crate) fn new(alloc: Global, count: usize) -> Result<Groups, AllocError> {
-        let mut nearer = Vec::with_capacity(alloc, count)?;
-        for number in 0..count {
-            nearer.push(number)?;
-        }
-        Ok(Groups { nearer })
+        Ok(Groups {
+            nearer: numbers_to(alloc, count)?,
+        })
     }
 
     /// The least number of this one's group. Every second number on the way there is brought nearer to it.
     pub(crate) fn least(&mut self, number: usize) -> usize {
         let mut here = number;
         for _step in 0..self.nearer.len() {
-            let next = self.nearer_than(here);
+            let next = self.nearer.get(here).copied().unwrap_or(here);
             if next == here {
                 return here;
             }
-            let further = self.nearer_than(next);
+            let further = self.nearer.get(next).copied().unwrap_or(next);
             if here < self.nearer.len() {
                 self.nearer[here] = further;
             }
@@ -43,10 +42,5 @@ impl Groups {
         if large < self.nearer.len() {
             self.nearer[large] = one.min(other);
         }
-    }
-
-    /// The next number on the way; the number itself where there is none.
-    fn nearer_than(&self, number: usize) -> usize {
-        self.nearer.get(number).copied().unwrap_or(number)
     }
 }

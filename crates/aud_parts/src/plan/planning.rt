@@ -9,7 +9,7 @@ use crate::plan::closed::{has_room, is_closed};
 use crate::plan::fault::PlanFault;
 use crate::plan::placing::place_units;
 use crate::plan::sessions::Sessions;
-use crate::plan::units::{Units, first_named, units_of};
+use crate::plan::units::{Units, units_of};
 use aud_node::Logs;
 use aud_tap::Tap;
 use std::alloc::{AllocError, Global};
@@ -109,7 +109,8 @@ fn parts_of_clients(
 ) -> Result<Vec<Option<usize>>, AllocError> {
     let mut of_clients = Vec::with_capacity(alloc, clients.len())?;
     for client in clients {
-        let part = match first_named(client, sessions) {
+        let first = client.facts.pids.as_slice().first();
+        let part = match sessions.number_named(first) {
             Some(session) => parts.get(session).copied(),
             None => None,
         };

@@ -5,6 +5,7 @@ ghost use Rattle.aud_parts.specs.Plan.{all_mentions, number_of};
 
 use crate::clients::measured::MeasuredClient;
 use aud_node::Logs;
+use aud_tap::Text;
 use indexmap::IndexSet;
 use std::alloc::{AllocError, Global};
 use std::hash::RandomState;
@@ -75,6 +76,14 @@ impl Sessions {
         ensures { result ≡ number_of self.now pid.now }
     {
         self.pids.get_index_of(pid)
+    }
+
+    /// The number of the session with this pid, if there is a pid.
+    pub(crate) fn number_named(&self, pid: Option<&Text>) -> Option<usize> {
+        match pid {
+            Some(pid) => self.number_of(pid.as_str()),
+            None => None,
+        }
     }
 
     /// A copy of the pid of the session with this number; nothing where there is no such session.

@@ -9,7 +9,7 @@ use crate::plan::fault::PlanFault;
 use crate::plan::planning::plan_parts;
 use aud_node::Logs;
 use aud_reader::ReadFault;
-use std::alloc::{AllocError, Global};
+use std::alloc::Global;
 use thiserror::Error;
 
 /// How many numbers of parts are tried at most.
@@ -32,12 +32,6 @@ pub enum SizedFault {
     NotFound,
 }
 
-impl From<AllocError> for SizedFault {
-    fn from(_: AllocError) -> SizedFault {
-        SizedFault::Plan(PlanFault::Memory)
-    }
-}
-
 impl From<ReadFault> for SizedFault {
     fn from(fault: ReadFault) -> SizedFault {
         match fault {
@@ -48,26 +42,14 @@ impl From<ReadFault> for SizedFault {
 }
 
 /// A part that has so many bytes.
-#[derive(Clone, Copy, Drop)]
+#[derive(Drop)]
 struct Measured {
     part: usize,
     bytes: u64,
 }
 
-/// The number of the heaviest part, the first of those that are as heavy.
-fn heaviest(plan: &Plan) -> usize {
-    let mut heaviest = 0usize;
-    let mut most = 0u64;
-    for (part, weight) in plan.weights.iter().enumerate() {
-        if *weight > most {
-            heaviest = part;
-            most = *weight;
-        }
-    }
-    heaviest
-}
-
-/// A part that has more than so many bytes: the heaviest one, or else the first.
+/// A part that has more than so many bytes: the heaviest one, the first of those that are as heavy; or else the first
+/// of the others.
 fn larger_part(
     alloc: Global,
     logs: &Logs<'_>,
@@ -75,8 +57,15 @@ fn larger_part(
     plan: &Plan,
     most: u64,
 ) -> Result<Option<Measured>, ReadFault> {
+    let mut heaviest = 0usize;
+    let mut weight = 0u64;
+    for (part, own) in plan.weights.iter().enumerate() {
+        if *own > weight {
+            heaviest = part;
+            weight = *own;
+        }
+    }
     let planned = &Planned::new(alloc, logs, clients, plan);
-    let heaviest = heaviest(plan);
     for number in 0..plan.weights.len() {
         let part = if number == 0 {
             heaviest

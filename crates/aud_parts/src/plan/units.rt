@@ -42,16 +42,13 @@ pub(crate) fn units_of(
     sessions: &Sessions,
 ) -> Result<Units, AllocError> {
     let mut groups = Groups::new(alloc, sessions.len())?;
-    join_logs(taps, sessions, &mut groups);
-    join_clients(clients, sessions, &mut groups);
-    let mut units = Units::of_groups(alloc, sessions.len(), &mut groups)?;
-    units.add_clients(clients, sessions);
-    units.add_taps(taps, sessions)?;
-    Ok(units)
-}
-
-/// Joins the sessions that one client's tap names.
-fn join_clients(clients: &[MeasuredClient], sessions: &Sessions, groups: &mut Groups) {
+    for tap in taps {
+        if let Records::Node(recs) = &tap.records {
+            if !is_started(recs) {
+                join_named(recs, sessions, &mut groups);
+            }
+        }
+    }
     for client in clients {
         let mut last: Option<usize> = None;
         for pid in client.facts.pids.as_slice() {
@@ -61,23 +58,18 @@ fn join_clients(clients: &[MeasuredClient], sessions: &Sessions, groups: &mut Gr
             }
         }
     }
+    let mut units = Units::of_groups(alloc, sessions.len(), &mut groups)?;
+    units.add(taps, clients, sessions)?;
+    Ok(units)
 }
 
-/// Joins the sessions of each log that doesn't begin with a `start`.
-fn join_logs(taps: &[Tap], sessions: &Sessions, groups: &mut Groups) {
-    for tap in taps {
-        let Records::Node(recs) = &tap.records else {
-            continue;
-        };
-        if is_started(recs) {
-            continue;
-        }
-        let mut last: Option<usize> = None;
-        for number in 0..recs.len() {
-            if let Some(next) = named_by(&recs[number], sessions) {
-                groups.join(last.unwrap_or(next), next);
-                last = Some(next);
-            }
+/// Joins the sessions that the log's records name.
+fn join_named(recs: &NodeRecs, sessions: &Sessions, groups: &mut Groups) {
+    let mut last: Option<usize> = None;
+    for number in 0..recs.len() {
+        if let Some(next) = sessions.number_named(recs[number].pid()) {
+            groups.join(last.unwrap_or(next), next);
+            last = Some(next);
         }
     }
 }
@@ -92,22 +84,6 @@ pub(crate) fn is_started(recs: &NodeRecs) -> bool
     }
 }
 
-/// The number of the session that the record names.
-fn named_by(rec: &NodeRec, sessions: &Sessions) -> Option<usize> {
-    match rec.pid() {
-        Some(pid) => sessions.number_of(pid.as_str()),
-        None => None,
-    }
-}
-
-/// The first session that the client's tap names.
-pub(crate) fn first_named(client: &MeasuredClient, sessions: &Sessions) -> Option<usize> {
-    match client.facts.pids.as_slice().first() {
-        Some(pid) => sessions.number_of(pid.as_str()),
-        None => None,
-    }
-}
-
 impl Units {
     /// A unit for each group, with its sessions alone.
     fn of_groups(alloc: Global, count: usize, groups: &mut Groups) -> Result<Units, AllocError> {
@@ -116,31 +92,22 @@ impl Units {
             of_sessions: Vec::with_capacity(alloc, count)?,
         };
         for session in 0..count {
-            units.add_session(alloc, session, groups.least(session))?;
+            // (the least of a group comes first, and begins its unit)
+            let begun = units.of_sessions.get(groups.least(session)).copied();
+            let number = begun.unwrap_or(units.all.len());
+            units.of_sessions.push(number)?;
+            if begun.is_none() {
+                units.all.push(Unit {
+                    first: session,
+                    part: 0,
+                    load: Load::new(alloc),
+                })?;
+            }
+            if let Some(unit) = units.all.get_mut(number) {
+                unit.load.sessions = unit.load.sessions.saturating_add(1);
+            }
         }
         Ok(units)
-    }
-
-    /// The next session goes to the unit of an earlier one, or else begins a unit.
-    fn add_session(
-        &mut self,
-        alloc: Global,
-        session: usize,
-        earlier: usize,
-    ) -> Result<(), AllocError> {
-        let begun = self.of_sessions.get(earlier).copied();
-        self.of_sessions.push(begun.unwrap_or(self.all.len()))?;
-        if begun.is_none() {
-            self.all.push(Unit {
-                first: session,
-                part: 0,
-                load: Load::new(alloc),
-            })?;
-        }
-        if let Some(load) = self.load_of(Some(session)) {
-            load.sessions = load.sessions.saturating_add(1);
-        }
-        Ok(())
     }
 
     /// What the session's unit brings to a part.
@@ -149,24 +116,26 @@ impl Units {
         Some(&mut self.all.get_mut(number)?.load)
     }
 
-    /// The clients' taps belong to the units of the sessions that they name.
-    fn add_clients(&mut self, clients: &[MeasuredClient], sessions: &Sessions) {
+    /// The clients' taps and the records of the nodes' taps belong to the units of the sessions that they name.
+    fn add(
+        &mut self,
+        taps: &[Tap],
+        clients: &[MeasuredClient],
+        sessions: &Sessions,
+    ) -> Result<(), AllocError> {
         for client in clients {
-            if let Some(load) = self.load_of(first_named(client, sessions)) {
+            let first = client.facts.pids.as_slice().first();
+            if let Some(load) = self.load_of(sessions.number_named(first)) {
                 load.clients = load.clients.saturating_add(1);
                 load.weight = load.weight.saturating_add(client.bytes);
             }
         }
-    }
-
-    /// The records of the nodes' taps belong to the units of the sessions that they name.
-    fn add_taps(&mut self, taps: &[Tap], sessions: &Sessions) -> Result<(), AllocError> {
         for (place, tap) in taps.iter().enumerate() {
             let Records::Node(recs) = &tap.records else {
                 continue;
             };
             for number in 0..recs.len() {
-                if let Some(load) = self.load_of(named_by(&recs[number], sessions)) {
+                if let Some(load) = self.load_of(sessions.number_named(recs[number].pid())) {
                     load.weight = load.weight.saturating_add(RECORD_WEIGHT);
                     load.add_node(place)?;
                 }

@@ -6,7 +6,7 @@ use aud_reader::InputCode;
 use std::marker::Model;
 
 /// A line that is refused; lines count from 1 over all files.
-#[derive(Clone, Copy, Debug, PartialEq, Eq, Drop)]
+#[derive(Clone, Copy, Drop)]
 pub struct RefusedLine {
     pub number: u64,
     pub code: InputCode,

@@ -2,11 +2,10 @@
 ghost use Rattle.std.specs.Prelude.{◌≡◌, ◌≤◌, ◌<◌, ◌++◌, ◌∷◌, [], ℕ, List, false, length, option_to_list, slice_get, IfOk, IfSome, IsTrue, MatchOption, OnOk, Some};
 ghost use Rattle.std.specs.List.{AllByRecursion};
 ghost use Rattle.aud_parts.specs.TapRuns.{BeginsWithBytes, IsReadable, run_bytes, runs_lines};
-ghost use Rattle.aud_parts.specs.Private.RunSteps.{EndsLine, GivesLines, HasFirstText, IsFirstText, front_run, runs_size};
+ghost use Rattle.aud_parts.specs.Private.RunSteps.{EndsLine, GivesLines, HasFirstText, front_run, runs_size};
 
-use crate::tap_index::run_source::RunSource;
 use crate::tap_index::tap_lines::{push_line, push_lines};
-use crate::tap_index::tap_runs::Run;
+use crate::tap_index::tap_runs::{Run, RunSource};
 use aud_base::RunFault;
 use aud_reader::{Line, next_line};
 use memchr::memrchr;
@@ -159,16 +158,6 @@ fn read_first<S: RunSource>(source: &mut S, buffer: &mut Vec<u8>, run: &Run) -> 
     source.read_run(&front_of(run, PIECE), buffer)
 }
 
-/// The bytes before the first newline; all, where there is none.
-fn first_text(bytes: &[u8]) -> &[u8]
-    ensures { IsFirstText bytes.now result.now }
-{
-    match next_line(bytes) {
-        Some((text, _)) => text,
-        None => bytes,
-    }
-}
-
 /// The first line of these runs. No more than its first 64 KiB are read, unless it is longer.
 pub fn first_line<S: RunSource>(
     alloc: Global,
@@ -187,6 +176,11 @@ pub fn first_line<S: RunSource>(
     };
     read_first(source, buffer, run)?;
     let mut lines = Vec::new(alloc);
-    push_line(alloc, run.number, first_text(buffer.as_slice()), &mut lines)?;
+    let bytes = buffer.as_slice();
+    let text = match next_line(bytes) {
+        Some((text, _)) => text,
+        None => bytes,
+    };
+    push_line(alloc, run.number, text, &mut lines)?;
     Ok(lines.pop())
 }

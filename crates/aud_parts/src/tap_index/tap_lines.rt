@@ -125,13 +125,3 @@ pub fn push_numbers(runs: &mut LineRuns, lines: &[Line]) -> Result<(), AllocErro
     }
     Ok(())
 }
-
-/// How many bytes the lines have, each ended by a newline.
-pub fn ended_len(lines: &[Line]) -> u64 {
-    let mut bytes = 0u64;
-    for line in lines {
-        let own = (line.bytes.as_slice().len() as u64).saturating_add(1);
-        bytes = bytes.saturating_add(own);
-    }
-    bytes
-}

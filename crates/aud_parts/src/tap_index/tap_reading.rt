@@ -10,9 +10,8 @@ ghost use Rattle.aud_parts.specs.TapRuns.{IsReadable, runs_lines};
 ghost use Rattle.aud_parts.specs.Private.TapsRead.{HoldsLines, IsReadOf};
 
 use crate::tap_index::run_lines::RunLines;
-use crate::tap_index::run_source::RunSource;
-use crate::tap_index::tap_lines::{ended_len, push_lines, push_numbers};
-use crate::tap_index::tap_runs::{Run, TapRuns};
+use crate::tap_index::tap_lines::{push_lines, push_numbers};
+use crate::tap_index::tap_runs::{Run, RunSource, TapRuns};
 use aud_base::RunFault;
 use aud_input::LineRuns;
 use aud_reader::{BundleReader, Line, ReadFault};
@@ -75,12 +74,11 @@ impl TapReading {
         ensures lines { OnOk result (lines_of_runs self.new.lines
             ≡ lines_of_runs self.old.lines ++ map (λ (line : Line). line.number) lines.now) }
     {
-        if self.bytes == 0 {
-            self.first = ended_len(lines.get(..1).unwrap_or(&[]));
-        }
-        self.bytes = self.bytes.saturating_add(ended_len(lines));
         push_numbers(&mut self.lines, lines)?;
         for line in lines {
+            let bytes = (line.bytes.as_slice().len() as u64).saturating_add(1);
+            self.first = if self.bytes == 0 { bytes } else { self.first };
+            self.bytes = self.bytes.saturating_add(bytes);
             read_line(&mut self.reader, line)?;
         }
         Ok(())
@@ -115,9 +113,9 @@ impl TapReading {
 pub fn read_tap<S: RunSource>(
     alloc: Global,
     keys: RandomState,
+    tap: &TapRuns,
     source: &mut S,
     buffer: &mut Vec<u8>,
-    tap: &TapRuns,
 ) -> Result<TapRead, RunFault>
     ensures tap { (files : List (List ℕ)) → S.files source.old ≡ Some files
         → AllByRecursion (IsReadable files) tap.now.runs

@@ -1,19 +1,22 @@
-//! The runs of bytes that have the lines of a tap.
-ghost use Rattle.std.specs.Prelude.{◌≡◌, ◌++◌, ◌==◌, ◌∷◌, [], List, ℕ, length, slice_get, IfOk, IsTrue, OnOk, Some};
+//! The runs of bytes that have the lines of a tap, and the files that have these bytes.
+ghost use Rattle.std.specs.Prelude.{◌≡◌, ◌++◌, ◌==◌, ◌∷◌, [], List, ℕ, length, slice_get, false, IsTrue, OnOk, Some};
+ghost use Rattle.std.specs.Option.{option_map_or};
 ghost use Rattle.std.specs.Str.{bytes_eq};
 ghost use Rattle.aud_base.specs.Places.{noted as place_noted, places_of};
 ghost use Rattle.aud_tap.specs.TapName.{is_tap_name};
 ghost use Rattle.aud_parts.specs.TapRuns as spec;
-ghost use Rattle.aud_parts.specs.IndexSoFar.{KeepsPlaces, Notes, changed, is_at, longer, none_noted, noted_in, place_in, with_run};
+ghost use Rattle.aud_parts.specs.PartLines.{is_server_at};
+ghost use Rattle.aud_parts.specs.IndexSoFar.{KeepsPlaces, Notes, changed, longer, none_noted, noted_in, place_in, with_run};
 
-use aud_base::Places;
-use aud_tap::Text;
+use aud_base::{Places, RunFault};
+use aud_input::LineRuns;
+use aud_tap::{TapKind, Text};
 use std::alloc::{AllocError, Global};
 use std::hash::RandomState;
 use std::marker::Model;
 
 /// A run of bytes of a file: lines of one tap, one after the other.
-#[derive(Clone, Copy, Debug, PartialEq, Eq, Drop)]
+#[derive(Clone, Copy, Drop)]
 pub struct Run {
     /// The file, counted from 0.
     pub file: usize,
@@ -23,6 +26,22 @@ pub struct Run {
     pub to: u64,
     /// The number of its first line, counted from 1 over all files.
     pub number: u64,
+}
+
+/// Files of which runs of bytes are read.
+pub trait RunSource {
+    ghost use Rattle.std.specs.Prelude.{◌≡◌, ◌-◌, ℕ, List, length, None, OnOk, Option, Some};
+    ghost use Rattle.aud_parts.specs.TapRuns.{run_bytes};
+
+    /// The bytes of each file, where they are known and stay the same.
+    ghost files: { Self → Option (List (List ℕ)) } = { λ _. None };
+
+    /// Puts the bytes of the run in the place of those in the buffer. The fault is `Read` or `Memory`.
+    fn read_run(&mut self, run: &Run, bytes: &mut Vec<u8>) -> Result<(), RunFault>
+        ensures run { (all : List (List ℕ)) → files self.old ≡ Some all
+            → OnOk result (bytes.new.items ≡ run_bytes all run.now) }
+        ensures size { OnOk result (length bytes.new.items ≡ run.now.to - run.now.from) }
+        ensures source { files self.new ≡ files self.old };
 }
 
 /// A tap by its name, with the runs of its lines.
@@ -96,12 +115,33 @@ impl TapRuns {
     }
 }
 
+/// The taps of an index, borrowed, with what each was put on; none where a tap's first line is no header.
+#[derive(Drop)]
+pub struct IndexedTaps<'a> {
+    pub taps: &'a [TapRuns],
+    pub kinds: &'a [Option<TapKind>],
+    /// The lines of each tap of the stream and of the nodes, in the order of the taps.
+    pub lines: &'a [LineRuns],
+}
+
+impl IndexedTaps<'_> {
+    /// Whether the tap at this place, which counts from 0, is the stream's or a node's.
+    pub fn is_server(&self, place: usize) -> bool
+        ensures { result ≡ is_server_at self.now.kinds.now place }
+    {
+        matches!(
+            self.kinds.get(place),
+            Some(Some(TapKind::Stream | TapKind::Node))
+        )
+    }
+}
+
 /// The taps in the order of their first lines, the place of each by its name, and the place of the tap whose line was
 /// added last.
 #[derive(Drop)]
 pub struct RunsByTap {
     alloc: Global,
-    taps: Vec<TapRuns>,
+    pub taps: Vec<TapRuns>,
     places: Places,
     last: usize,
 }
@@ -122,7 +162,8 @@ impl RunsByTap {
 
     /// Whether the tap whose line was added last has this name.
     fn is_last(&self, name: &str) -> bool
-        ensures { result ≡ is_at self.now.last self.now.taps.items name.now }
+        ensures { result ≡ option_map_or (λ (tap : spec.TapRuns). bytes_eq tap.name name.now)
+            (slice_get self.now.taps.items self.now.last) false }
     {
         match self.taps.get(self.last) {
             Some(tap) => tap.name() == name,
@@ -188,11 +229,5 @@ impl RunsByTap {
             Some(place) => self.push(place, line),
             None => self.open(name, line),
         }
-    }
-
-    pub fn taps(&self) -> &[TapRuns]
-        ensures { result.now ≡ self.now.taps.items }
-    {
-        &self.taps
     }
 }

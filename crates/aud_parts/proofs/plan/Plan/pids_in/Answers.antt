@@ -1,10 +1,9 @@
-use Rattle.std.proofs.Common.{◌≡◌, ◌≤◌, ◌⊎◌, ◌++◌, ◌∷◌, [], inl, inr, cond, length, map, nat_eq, refl, arith, Bor, List, ℕ}
+use Rattle.std.proofs.Common.{◌≡◌, ◌≤◌, ◌⊎◌, ◌++◌, ◌∷◌, [], inl, inr, cond, length, nat_eq, refl, arith}
 use Rattle.std.proofs.lemmas.Bool.{cases_lt, eq-eqb, ne_eqb}
-use Rattle.std.proofs.lemmas.List.{map_push}
 use Rattle.std.proofs.lemmas.Option.{slice_get_read}
 use Rattle.aud_parts.specs.Plan.{pids_in}
 use Rattle.aud_parts.proofs.PartPids.{pids_with-more, pids_with-all}
-use Rattle.aud_parts.proofs.plan.Plan.pids_in.Goals.{then-index-part+in_ok-push, else-index-part}
+use Rattle.aud_parts.proofs.plan.Plan.pids_in.Goals.{then-index-part+in_ok-new+in_ok-push, else-index-part}
 use Rattle.aud_parts.proofs.plan.Plan.pids_in.Goals as goal
 
 pub loop-number-preserved : goal.loop-number-preserved
@@ -14,13 +13,12 @@ loop-number-preserved c =
     let pid = c.pid-pid.result.now in
     let own = c.index.result.now in
     let done = c.loop-number.pids.items in
-    let texts = λ (xs : List (Bor (List ℕ))). map (λ (x : Bor (List ℕ)). x.now) xs in
-    let is : texts c.if-index-part.pids.items ≡ cond (nat_eq own c.args.part) (texts done ++ pid ∷ []) (texts done) =
+    let is : c.if-index-part.pids.items ≡ cond (nat_eq own c.args.part) (done ++ pid ∷ []) done =
     elim c.if-index-part.branch [
-      | then-index-part+in_ok-push w ↦ grind (arith, w.pids-is, w.in_ok-push.ensures.items, map_push (λ (x : Bor (List ℕ)). x.now) done c.pid-pid.result, eq-eqb own c.args.part w.if-index-part.true)
+      | then-index-part+in_ok-new+in_ok-push w ↦ grind (arith, w.pids-is, w.in_ok-push.ensures.items, w.in_ok-new.ensures, eq-eqb own c.args.part w.if-index-part.true)
       | else-index-part w ↦ grind (arith, w.pids-is, ne_eqb own c.args.part w.if-index-part.false)
     ] in
-    pids_with-more c.args.part plan.sessions plan.parts.items n pid own (texts done) (texts c.if-index-part.pids.items) (pids_in plan c.args.part)
+    pids_with-more c.args.part plan.sessions plan.parts.items n pid own done c.if-index-part.pids.items (pids_in plan c.args.part)
     c.pid-pid.ensures
     (slice_get_read plan.parts.items (length plan.parts.items) n own refl (omega (arith, plan.parts.ok.0)) c.index.ensures)
     is c.loop-number.invariant
@@ -34,4 +32,4 @@ returns c =
       | inl below ↦ inr (omega (arith, plan.parts.ok.0))
       | inr above ↦ inl above
     ] in
-    pids_with-all c.args.part plan.sessions plan.parts.items n (map (λ (x : Bor (List ℕ)). x.now) c.loop-number.pids.items) (pids_in plan c.args.part) past c.loop-number.invariant
+    pids_with-all c.args.part plan.sessions plan.parts.items n c.loop-number.pids.items (pids_in plan c.args.part) past c.loop-number.invariant

@@ -10,9 +10,9 @@ use Rattle.aud_parts.proofs.tap_index.TapIndex.taps.Goals as goal
 
 pub returns-clause-taps : goal.returns-clause-taps
 returns-clause-taps c = λ files has counted.
-    subst (AreTapsOf files) (sym (c.taps.ensures ∙ ap (λ (x : Indexed). (x.noted).taps) (read-whole c.args.self.now files (has counted)).0)) (are-taps files)
+    subst (AreTapsOf files) (sym (c.deref.ensures.value ∙ ap (λ (x : Indexed). (x.noted).taps) (read-whole c.args.self.now files (has counted)).0)) (are-taps files)
 
 pub returns-clause-runs : goal.returns-clause-runs
 returns-clause-runs c = λ files has counted.
-    subst (λ (taps : List TapRuns). All (MayBeRead files) taps) (sym (c.taps.ensures ∙ ap (λ (x : Indexed). (x.noted).taps) (read-whole c.args.self.now files (has counted)).0))
+    subst (λ (taps : List TapRuns). All (MayBeRead files) taps) (sym (c.deref.ensures.value ∙ ap (λ (x : Indexed). (x.noted).taps) (read-whole c.args.self.now files (has counted)).0))
     (may-be-read files (omega (arith, counted)))

@@ -1,5 +1,5 @@
 use Rattle.aud_parts.proofs.MarkLemmas.{marked-more}
-use Rattle.aud_parts.proofs.marks.marks_of.Goals as goal
+use Rattle.aud_parts.proofs.part.entries.marks_of.Goals as goal
 
 pub loop-position-preserved : goal.loop-position-preserved
 loop-position-preserved c =

@@ -1,7 +1,7 @@
 use Rattle.std.proofs.Common.{◌≡◌, ◌+◌, drop}
 use Rattle.aud_parts.specs.NamedLines.{files_in}
 use Rattle.aud_parts.proofs.NamedLinesLemmas.{with_files}
-use Rattle.aud_parts.proofs.named_lines.reading.files_in.Given as goal
+use Rattle.aud_parts.proofs.named_lines.files_in.Given as goal
 
 -- the files so far, and those of the lines that are left, are those of all lines
 abbrev pub invariant-loop-number : goal.invariant-loop-number

@@ -1,6 +1,6 @@
 use Rattle.std.proofs.Common.{take}
 use Rattle.aud_parts.specs.Private.Marks.{AreMarked}
-use Rattle.aud_parts.proofs.marks.marks_of.Given as goal
+use Rattle.aud_parts.proofs.part.entries.marks_of.Given as goal
 
 -- the positions so far are marked
 abbrev pub invariant-loop-position : goal.invariant-loop-position

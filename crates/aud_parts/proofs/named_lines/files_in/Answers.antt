@@ -3,7 +3,7 @@ use Rattle.std.proofs.lemmas.List.{drop_more}
 use Rattle.aud_input.specs.declared.input_file.InputFile.{InputFile}
 use Rattle.aud_parts.specs.NamedLines.{file_in, files_in}
 use Rattle.aud_parts.proofs.NamedLinesLemmas.{files_next, with_files}
-use Rattle.aud_parts.proofs.named_lines.reading.files_in.Goals as goal
+use Rattle.aud_parts.proofs.named_lines.files_in.Goals as goal
 
 pub loop-number-preserved : goal.loop-number-preserved
 loop-number-preserved c =

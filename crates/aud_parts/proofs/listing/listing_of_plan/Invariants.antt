@@ -2,7 +2,7 @@ use Rattle.std.proofs.Common.{◌≡◌, map, take, length, true}
 use Rattle.std.specs.List.{list_all}
 use Rattle.std.specs.Prelude.{nat_lt}
 use Rattle.aud_parts.specs.declared.listing.ListedSession.{ListedSession}
-use Rattle.aud_parts.proofs.listing.of_plan.listing_of_plan.Given as goal
+use Rattle.aud_parts.proofs.listing.listing_of_plan.Given as goal
 
 -- the sessions so far are the first of the plan's, each of one of its parts
 abbrev pub invariant-loop-number : goal.invariant-loop-number

@@ -7,7 +7,7 @@ use Rattle.std.proofs.lemmas.Option.{gets, slice_get_within, slice_get_read}
 use Rattle.std.proofs.lemmas.List.{map_push}
 use Rattle.std.proofs.lemmas.List.Elements.{All-get_or}
 use Rattle.aud_parts.specs.declared.listing.ListedSession.{ListedSession}
-use Rattle.aud_parts.proofs.listing.of_plan.listing_of_plan.Goals as goal
+use Rattle.aud_parts.proofs.listing.listing_of_plan.Goals as goal
 
 -- the front with one element more
 one_more : {X : Type 0} (xs : List X) (i : ℕ) (x : X) → slice_get xs i ≡ Some x → take (i + 1) xs ≡ take i xs ++ x ∷ []
