@@ -1,13 +1,14 @@
 -- Messages given to an assembler, and their refusals.
 use Rattle.std.proofs.Common.{◌≡◌, ℕ, suc, List, [], ◌∷◌, ◌++◌, flat_map, refl, sym, ap, ◌∙◌, subst, Option, Some, None, Result, Ok, Err, IfOk, OnOk}
+use Rattle.std.specs.Result.{result_ok}
 use Rattle.std.proofs.lemmas.List.{append-nil, append_assoc}
 use Rattle.std.proofs.lemmas.Option.{none-some}
 use Rattle.aud_sio.specs.declared.fault.SioFault.{SioFault}
 use Rattle.aud_sio.specs.declared.fault.SioFault.TheVariants.{Memory}
 use Rattle.aud_eio.specs.Packet as eio
-use Rattle.aud_eio.specs.declared.packet.EioFault.{EioFault}
 use Rattle.aud_tap.specs.declared.records.ClientRec.{ClientRec}
-use Rattle.aud_client.specs.TapPackets.{engine_packets, messages_at, messages_or_none}
+use Rattle.aud_client.specs.TapPackets.{engine_packets, messages_at}
+use Rattle.aud_rows.proofs.LackingLemmas.{at-none, at-packets}
 use Rattle.aud_sio.specs.Message.{Message, at, messages_of}
 use Rattle.aud_sio.specs.Wholes.{Answer}
 use Rattle.aud_sio.specs.Assembly.{Feeds, Waits, wholes_after}
@@ -73,7 +74,14 @@ Passes-append old mid new xs ys a b =
     }
 
 -- the messages of a record
-pub OnOk-at : {E : Type 0} (r : Result (Unit {0}) E) (rec given : ClientRec) (e : Result (List eio.Packet) EioFault) (old new : List Message) → rec ≡ given → engine_packets given ≡ e
-    → OnOk r (Passes old (messages_or_none 0 e) new) → OnOk r (Passes old (messages_at (0, rec)) new)
-OnOk-at r rec given e old new is packets passes =
-    subst (λ (x : Result (List eio.Packet) EioFault). OnOk r (Passes old (messages_or_none 0 x) new)) (sym (ap engine_packets is ∙ packets)) passes
+pub OnOk-packets : {E : Type 0} (r : Result (Unit {0}) E) (rec : ClientRec) (packets : List eio.Packet) (old new : List Message) → Some packets ≡ result_ok (engine_packets rec)
+    → OnOk r (Passes old (at 0 (flat_map messages_of packets)) new) → OnOk r (Passes old (messages_at (0, rec)) new)
+OnOk-packets r rec packets old new given passes =
+    subst (λ (ms : List (ℕ × Message)). OnOk r (Passes old ms new)) (sym (at-packets 0 rec packets given)) passes
+
+-- and none, where it is refused
+pub Passes-none : (old : List Message) (rec : ClientRec) → None ≡ result_ok (engine_packets rec) → Passes old (messages_at (0, rec)) old
+Passes-none old rec none = record {
+  next = λ l. ap (λ (ms : List (ℕ × Message)). refusal_to old (ms ++ l)) (at-none 0 rec none);
+  waits = λ w. w;
+}

@@ -8,7 +8,6 @@ use Rattle.aud_tap.specs.Json.{text_at}
 use Rattle.aud_reader.specs.Bundle.{max_client_taps, max_entries, max_node_taps, max_pids, max_records}
 use Rattle.aud_reader.specs.Header.{tap_kind}
 use Rattle.aud_reader.specs.Record.{tap_of_kind}
-use Rattle.aud_refusals.specs.declared.member.Member.{Member}
 use Rattle.aud_refusals.specs.declared.excess.Excess.{Excess}
 use Rattle.aud_refusals.specs.declared.excess.Excess.TheVariants.{Length, Count, Item, Number}
 use Rattle.aud_refusals.specs.Members.{key_of, members_of}
@@ -18,15 +17,11 @@ use Rattle.aud_refusals.specs.Excess.{first_excess}
 abbrev pub length_text : ℕ → ℕ → List ℕ
 length_text length most = codes " has " ++ decimal length ++ codes " bytes; it may have 1 to " ++ decimal most ++ codes ".\n"
 
--- an item of a list, by its place
-abbrev pub item_text : Member → ℕ → List ℕ
-item_text m place = codes "Item " ++ decimal place ++ codes " of the field " ++ key_of m
-
 -- what is outside its limits, and the limits
 abbrev pub excess_text : Excess → List ℕ
 excess_text (Length m length most) = codes "The field " ++ key_of m ++ length_text length most
 excess_text (Count m count most) = codes "The field " ++ key_of m ++ codes " has " ++ decimal count ++ codes " items; it may have at most " ++ decimal most ++ codes ".\n"
-excess_text (Item m place length most) = item_text m place ++ length_text length most
+excess_text (Item m place length most) = codes "Item " ++ decimal place ++ codes " of the field " ++ key_of m ++ length_text length most
 excess_text (Number m number most) = codes "The field " ++ key_of m ++ codes " is " ++ decimal number ++ codes "; it may be at most " ++ decimal most ++ codes ".\n"
 
 -- how many there may be

@@ -3,21 +3,21 @@
 -- It is said of any record what is refused in it, after the messages of its connection. That it is so exactly of the
 -- records that `tap_packets` counts as bad isn't said here: both rest on `engine_packet_of` and `wholes_of`, where the
 -- one counts the packets of a record and the other the records of a connection.
-use Rattle.std.specs.Prelude.{ℕ, zero, suc, ◌-◌, ◌==◌, ◌||◌, nat_lt, List, [], ◌∷◌, ◌++◌, Option, Some, None, option_map, Result, Ok, Err, Bool, true, false, if◌then◌else◌, flat_map, take, drop, slice_get}
+use Rattle.std.specs.Prelude.{ℕ, zero, suc, ◌-◌, ◌==◌, ◌||◌, nat_lt, List, [], ◌∷◌, ◌++◌, Option, Some, None, option_map, Ok, Err, Bool, if◌then◌else◌, flat_map, take, slice_get}
 use Rattle.std.specs.List.{after_first}
 use Rattle.std.specs.Option.{option_and_then, option_or}
 use Rattle.aud_tap.specs.declared.records.ClientRec.{ClientRec}
-use Rattle.aud_tap.specs.declared.records.ClientRec.TheVariants.{Conn, TextIn, BytesIn, Poll, Lost}
+use Rattle.aud_tap.specs.declared.records.ClientRec.TheVariants.{TextIn, Poll}
 use Rattle.aud_eio.specs.Packet.{engine_packet_of}
 use Rattle.aud_eio.specs.Packet as eio
-use Rattle.aud_eio.specs.declared.packet.EioFault.{EioFault}
 use Rattle.aud_eio.specs.Body.{body_pieces}
 use Rattle.aud_sio.specs.declared.fault.SioFault.TheVariants as sio
 use Rattle.aud_sio.specs.Digits.{after_digits}
 use Rattle.aud_sio.specs.Namespace.{leading_namespace}
-use Rattle.aud_sio.specs.Message.{Message, Bytes, Lent, messages_of, at}
+use Rattle.aud_sio.specs.Message.{Message, messages_of, at}
 use Rattle.aud_sio.specs.Wholes.{Answer, wholes_of}
-use Rattle.aud_client.specs.TapPackets.{messages_at}
+use Rattle.aud_client.specs.TapPackets.{engine_packets, messages_at}
+use Rattle.aud_rows.specs.Marks.{connection_of}
 use Rattle.aud_refusals.specs.NoJson.{is_json, no_json}
 use Rattle.aud_refusals.specs.declared.no_packet.NoPacket.{NoPacket}
 use Rattle.aud_refusals.specs.declared.no_packet.PayloadFault.{PayloadFault}
@@ -26,22 +26,6 @@ use Rattle.aud_refusals.specs.declared.no_packet.Refusal.{Refusal}
 use Rattle.aud_refusals.specs.declared.no_packet.Refusal.TheVariants.{Engine, Socket, Payload}
 
 -- ---- the records before it
-
--- the record ends the connection before it
-abbrev pub ends_connection : ClientRec → Bool
-ends_connection (Conn c) = true
-ends_connection Lost = true
-ends_connection _ = false
-
--- the number of the record after the last `conn` or `lost`, where the connection begins at this one and these come
--- next, the first of which has this number
-abbrev pub begin_from : ℕ → ℕ → List ClientRec → ℕ
-begin_from begin number [] = begin
-begin_from begin number (rec ∷ recs) = begin_from (if ends_connection rec then suc number else begin) (suc number) recs
-
--- the records of these that are of the connection that goes on after them
-abbrev pub connection_of : List ClientRec → List ClientRec
-connection_of recs = drop (begin_from 0 0 recs) recs
 
 -- the messages of records, each at place 0
 abbrev pub messages_before : List ClientRec → List (ℕ × Message)
@@ -61,17 +45,10 @@ abbrev pub engine_refusal : ℕ → List (List ℕ) → Option NoPacket
 engine_refusal number [] = None
 engine_refusal number (text ∷ texts) = option_or (engine_refused number text) (engine_refusal (suc number) texts)
 
--- the messages of the packet with this text
-abbrev pub messages_of_text : List ℕ → List Message
-messages_of_text text = elim (engine_packet_of text) [
-  | Ok packet ↦ messages_of packet
-  | Err fault ↦ []
-]
-
--- the messages of packets with these texts, each at the number of its packet; the first has this number
-abbrev pub packet_messages : ℕ → List (List ℕ) → List (ℕ × Message)
+-- the messages of packets, each at the number of its packet; the first has this number
+abbrev pub packet_messages : ℕ → List eio.Packet → List (ℕ × Message)
 packet_messages number [] = []
-packet_messages number (text ∷ texts) = at number (messages_of_text text) ++ packet_messages (suc number) texts
+packet_messages number (packet ∷ packets) = at number (messages_of packet) ++ packet_messages (suc number) packets
 
 -- the first refusal among answers, of those past place 0
 abbrev pub first_refusal : List (ℕ × Answer) → Option NoPacket
@@ -82,21 +59,19 @@ first_refusal ((suc k, Err fault) ∷ answers) = Some (record { refusal = Socket
 
 -- ---- the record
 
--- the refusal of packets with these texts after these messages: the first text that is no Engine.IO packet, since then
--- no packet of the record is read; else the first message that is refused
-abbrev pub texts_refusal : List (ℕ × Message) → List (List ℕ) → Option NoPacket
-texts_refusal before texts = option_or (engine_refusal 1 texts) (first_refusal (wholes_of (before ++ packet_messages 1 texts)))
+-- the texts of a record's packets
+abbrev pub texts_of : ClientRec → List (List ℕ)
+texts_of (TextIn t) = t ∷ []
+texts_of (Poll t) = body_pieces t
+texts_of _ = []
 
--- of a record that has one packet no number is told
-abbrev pub alone : Option NoPacket → Option NoPacket
-alone found = option_map (λ (f : NoPacket). record { refusal = f.refusal; packet = None }) found
-
--- the refusal of the record after these messages: nothing is refused of what the client sends
+-- the refusal of the record after these messages, of a packet with a number: the first message that is refused; or the
+-- first text that is no Engine.IO packet, since then no packet of the record is read
 abbrev pub record_refusal : List (ℕ × Message) → ClientRec → Option NoPacket
-record_refusal before (TextIn t) = alone (texts_refusal before (t ∷ []))
-record_refusal before (BytesIn b) = alone (first_refusal (wholes_of (before ++ at 1 (Bytes (Lent b) ∷ []))))
-record_refusal before (Poll t) = texts_refusal before (body_pieces t)
-record_refusal before _ = None
+record_refusal before rec = elim (engine_packets rec) [
+  | Ok packets ↦ first_refusal (wholes_of (before ++ packet_messages 1 packets))
+  | Err fault ↦ engine_refusal 1 (texts_of rec)
+]
 
 -- the refusal of the record with this number, by the decoder
 abbrev pub refused_at : List ClientRec → ℕ → Option NoPacket
@@ -104,23 +79,17 @@ refused_at recs number = option_and_then (record_refusal (messages_before (conne
 
 -- ---- what is wrong with a payload
 
--- the text of the record's packet with this number, of a polling body, or of its one packet
-abbrev pub packet_text : ClientRec → Option ℕ → Option (List ℕ)
-packet_text (TextIn t) number = Some t
-packet_text (Poll t) (Some number) = slice_get (body_pieces t) (number - 1)
-packet_text _ _ = None
-
--- the message of a packet with this text
-abbrev pub message_in : Result eio.Packet EioFault → Option (List ℕ)
-message_in (Ok (eio.Message text)) = Some text
+-- the message of a packet
+abbrev pub message_in : Option eio.Packet → Option (List ℕ)
+message_in (Some (eio.Message text)) = Some text
 message_in _ = None
 
-abbrev pub message_text : List ℕ → Option (List ℕ)
-message_text text = message_in (engine_packet_of text)
-
--- the message of the record's packet with that number
-abbrev pub message_of : ClientRec → Option ℕ → Option (List ℕ)
-message_of rec number = option_and_then message_text (packet_text rec number)
+-- the message of the record's packet with this number
+abbrev pub message_of : ClientRec → ℕ → Option (List ℕ)
+message_of rec number = elim (engine_packets rec) [
+  | Ok packets ↦ message_in (slice_get packets (number - 1))
+  | Err fault ↦ None
+]
 
 -- the sign after a count of attachments
 abbrev pub is_dash : ℕ → Bool
@@ -146,11 +115,16 @@ abbrev pub told_refusal : Refusal → Option (List ℕ) → Refusal
 told_refusal (Socket sio.Payload) (Some message) = Payload (payload_fault (payload_of message))
 told_refusal refusal message = refusal
 
+-- the number is told of a packet of a polling body, where others may stand
+abbrev pub told_number : ClientRec → Option ℕ → Option ℕ
+told_number (Poll t) number = number
+told_number _ number = None
+
 -- the refusal, and of a payload what is wrong with it
 abbrev pub told : ClientRec → NoPacket → NoPacket
 told rec found = record {
-  refusal = told_refusal found.refusal (message_of rec found.packet);
-  packet = found.packet;
+  refusal = told_refusal found.refusal (option_and_then (message_of rec) found.packet);
+  packet = told_number rec found.packet;
 }
 
 -- the same of a refusal of the record, if there are both

@@ -1,14 +1,14 @@
 //! The records of a connection before one.
-ghost use Rattle.std.specs.Prelude.{◌∷◌, [], IfOk, OnOk, flat_map, map};
-ghost use Rattle.aud_eio.specs.Packet.{engine_view, engine_packet_of};
-ghost use Rattle.aud_eio.specs.Body.{engine_packets_of};
+ghost use Rattle.std.specs.Prelude.{[], IfOk, OnOk, flat_map, map};
+ghost use Rattle.aud_eio.specs.Packet.{engine_view};
 ghost use Rattle.aud_sio.specs.Message.{at, messages_of};
-ghost use Rattle.aud_client.specs.TapPackets.{messages_at, messages_or_none, one_of};
+ghost use Rattle.aud_client.specs.TapPackets.{messages_at};
 ghost use Rattle.aud_refusals.specs.NoPacket.{messages_before};
 ghost use Rattle.aud_refusals.specs.Private.Fed.{Passes};
 
 use crate::packets::feed;
-use aud_eio::{Eio, EioFault, decode_binary, decode_payload, decode_text};
+use aud_eio::Eio;
+use aud_rows::packets_of;
 use aud_sio::Assembler;
 use aud_tap::ClientRec;
 use std::alloc::{AllocError, Global};
@@ -27,7 +27,7 @@ pub(crate) fn assembler_after<'a>(
     Ok(assembler)
 }
 
-/// Gives the assembler the messages of the record.
+/// Gives the assembler the packets of the record.
 fn pass<'a>(
     alloc: Global,
     assembler: &mut Assembler<'a>,
@@ -35,43 +35,9 @@ fn pass<'a>(
 ) -> Result<(), AllocError>
     ensures { OnOk result (Passes assembler.old (messages_at (0, rec.now)) assembler.new) }
 {
-    match rec {
-        ClientRec::TextIn { t } => pass_text(alloc, assembler, t.as_str()),
-        ClientRec::BytesIn { b } => pass_packet(assembler, decode_binary(b.as_slice())),
-        ClientRec::Poll { t } => pass_body(alloc, assembler, t.as_str()),
-        ClientRec::Conn { .. } => Ok(()),
-        ClientRec::TextOut { .. } => Ok(()),
-        ClientRec::Lost => Ok(()),
-    }
-}
-
-fn pass_text<'a>(
-    alloc: Global,
-    assembler: &mut Assembler<'a>,
-    text: &'a str,
-) -> Result<(), AllocError>
-    ensures { OnOk result (Passes assembler.old
-        (messages_or_none 0 (one_of (engine_packet_of text.now))) assembler.new) }
-{
-    match decode_text(alloc, text) {
-        Ok(packet) => pass_packet(assembler, packet),
-        Err(EioFault::Memory) => Err(AllocError),
-        Err(_) => Ok(()),
-    }
-}
-
-fn pass_body<'a>(
-    alloc: Global,
-    assembler: &mut Assembler<'a>,
-    body: &'a str,
-) -> Result<(), AllocError>
-    ensures { OnOk result (Passes assembler.old
-        (messages_or_none 0 (engine_packets_of body.now)) assembler.new) }
-{
-    match decode_payload(alloc, body) {
-        Ok(packets) => pass_packets(assembler, packets),
-        Err(EioFault::Memory) => Err(AllocError),
-        Err(_) => Ok(()),
+    match packets_of(alloc, rec)? {
+        Some(packets) => pass_packets(assembler, packets),
+        None => Ok(()),
     }
 }
 
@@ -80,15 +46,7 @@ fn pass_packets<'a>(assembler: &mut Assembler<'a>, packets: Vec<Eio<'a>>) -> Res
         (at 0 (flat_map messages_of (map engine_view packets.entry.items))) assembler.new) }
 {
     for packet in packets {
-        pass_packet(assembler, packet)?;
+        let _fault = feed(assembler, packet)?;
     }
-    Ok(())
-}
-
-fn pass_packet<'a>(assembler: &mut Assembler<'a>, packet: Eio<'a>) -> Result<(), AllocError>
-    ensures { OnOk result (Passes assembler.old
-        (at 0 (flat_map messages_of (engine_view packet.entry ∷ []))) assembler.new) }
-{
-    let _fault = feed(assembler, packet)?;
     Ok(())
 }

@@ -14,7 +14,7 @@ use aud_tap::limits::{
 const MAX_TURN: u64 = 65_535;
 
 /// What of a member is outside its limits, and the limit. Lengths are in bytes, and items count from 1.
-#[derive(Clone, Copy, Debug, PartialEq, Eq, Drop)]
+#[derive(Clone, Copy, Drop)]
 pub enum Excess {
     /// A text is empty, or longer than it may be.
     Length {
@@ -57,29 +57,21 @@ fn length_excess(member: Member, most: usize, text: Option<&str>) -> Option<Exce
     })
 }
 
-fn text_excess(member: Member, place: usize, most: usize, text: Option<&str>) -> Option<Excess>
-    ensures { result ≡ text_excess member place most (as_str (text_view text.entry)) }
-{
-    let text = text?;
-    if fits(most, text) {
-        return None;
-    }
-    Some(Excess::Item {
-        member,
-        place,
-        length: text.len(),
-        most,
-    })
-}
-
 /// The first item that is empty or too long.
 fn items_excess(member: Member, most: usize, items: &[Option<&str>]) -> Option<Excess>
     ensures { result ≡ items_excess member 1 most (list_view items.now) }
 {
     for (number, item) in items.iter().enumerate() {
-        let excess = text_excess(member, number + 1, most, *item);
-        if excess.is_some() {
-            return excess;
+        match item {
+            Some(text) if !fits(most, text) => {
+                return Some(Excess::Item {
+                    member,
+                    place: number + 1,
+                    length: text.len(),
+                    most,
+                });
+            }
+            _ => {}
         }
     }
     None

@@ -7,8 +7,7 @@ ghost use Rattle.aud_refusals.specs.Help.{help_text, value_help};
 use crate::field_help::push_field_help;
 use crate::json_help::push_json_help;
 use crate::kind_help::{
-    push_first_help, push_header, push_kind_help, push_offset_help, push_second_help,
-    push_version_help,
+    push_header, push_kind_help, push_offset_help, push_second_help, push_version_help,
 };
 use crate::limit_help::{push_at_most, push_limit_help};
 use crate::opened::opened;
@@ -30,7 +29,9 @@ fn push_fields_help(
         ≡ string_bytes out.old ++ value_help code header (Some (view d.now))) }
 {
     match code {
-        InputCode::NoHeader => push_first_help(out),
+        InputCode::NoHeader => out.push_str(
+            "The first line of a tap is its header: k is tap, v is 1 or 2, and of is stream, node or client.\n",
+        ),
         InputCode::UnknownKind => push_kind_help(out, d, header),
         InputCode::Field => push_field_help(alloc, out, d),
         InputCode::Limit => push_limit_help(out, d),

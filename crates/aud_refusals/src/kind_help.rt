@@ -2,7 +2,7 @@
 ghost use Rattle.std.specs.Prelude.{◌≡◌, ◌++◌, OnOk, option_map, string_bytes};
 ghost use Rattle.aud_json.specs.View.{view};
 ghost use Rattle.aud_reader.specs.Record.{tap_of_kind};
-ghost use Rattle.aud_refusals.specs.KindHelp.{first_help, header_text, kind_help, offset_help, offset_text, owner_text, second_help, unknown_text, version_help};
+ghost use Rattle.aud_refusals.specs.KindHelp.{header_text, kind_help, offset_help, owner_text, second_help, version_help};
 
 use crate::member::{number_at, text_at};
 use aud_json::Fields;
@@ -36,17 +36,6 @@ fn owner_text(kind: &str) -> &'static str
     }
 }
 
-fn push_unknown(out: &mut String, kind: &str, header: Option<u64>) -> Result<(), AllocError>
-    ensures { OnOk result (string_bytes out.new
-        ≡ string_bytes out.old ++ unknown_text kind.now header) }
-{
-    if kind == "tap" {
-        return out.push_str("The field of has to be stream, node or client.\n");
-    }
-    out.push_str(owner_text(kind))?;
-    push_header(out, header)
-}
-
 /// Puts help on the value of a line whose kind is unknown at the end.
 pub fn push_kind_help(
     out: &mut String,
@@ -56,10 +45,14 @@ pub fn push_kind_help(
     ensures { OnOk result (string_bytes out.new
         ≡ string_bytes out.old ++ kind_help (view d.now) header) }
 {
-    match text_at("k", d) {
-        Some(kind) => push_unknown(out, kind, header),
-        None => Ok(()),
+    let Some(kind) = text_at("k", d) else {
+        return Ok(());
+    };
+    if kind == "tap" {
+        return out.push_str("The field of has to be stream, node or client.\n");
     }
+    out.push_str(owner_text(kind))?;
+    push_header(out, header)
 }
 
 /// Puts help on a header of another version at the end.
@@ -73,25 +66,18 @@ pub fn push_version_help(out: &mut String, d: &Fields<'_>) -> Result<(), AllocEr
     }
 }
 
-fn push_offset(out: &mut String, off: &str) -> Result<(), AllocError>
-    ensures { OnOk result (string_bytes out.new
-        ≡ string_bytes out.old ++ offset_text (Some off.now)) }
-{
-    if is_id(off) && fits(MAX_OFFSET, off) {
-        return writeln!(out, "An earlier entry of the stream has the offset {off}.");
-    }
-    Ok(())
-}
-
 /// Puts help on an entry whose offset an earlier one has at the end.
 pub fn push_offset_help(out: &mut String, d: &Fields<'_>) -> Result<(), AllocError>
     ensures { OnOk result (string_bytes out.new
         ≡ string_bytes out.old ++ offset_help (view d.now)) }
 {
-    match text_at("off", d) {
-        Some(off) => push_offset(out, off),
-        None => Ok(()),
+    let Some(off) = text_at("off", d) else {
+        return Ok(());
+    };
+    if is_id(off) && fits(MAX_OFFSET, off) {
+        return writeln!(out, "An earlier entry of the stream has the offset {off}.");
     }
+    Ok(())
 }
 
 /// Puts help on the header of a second stream at the end.
@@ -105,13 +91,4 @@ pub fn push_second_help(out: &mut String, header: Option<u64>) -> Result<(), All
         ),
         None => out.push_str("A bundle may have one stream.\n"),
     }
-}
-
-/// Puts help on a first line that is no header at the end.
-pub fn push_first_help(out: &mut String) -> Result<(), AllocError>
-    ensures { OnOk result (string_bytes out.new ≡ string_bytes out.old ++ first_help) }
-{
-    out.push_str(
-        "The first line of a tap is its header: k is tap, v is 1 or 2, and of is stream, node or client.\n",
-    )
 }

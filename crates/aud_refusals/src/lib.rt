@@ -26,7 +26,6 @@
 #![tactic(auto)]
 
 mod before;
-mod begin;
 mod excess;
 mod field_help;
 mod help;
@@ -41,9 +40,9 @@ mod no_packet;
 mod opened;
 mod packets;
 mod payload;
-mod pieces;
 mod record;
 mod tap_name;
+mod texts;
 mod token_place;
 
 pub use help::refusal_help;

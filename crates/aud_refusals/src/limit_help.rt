@@ -1,10 +1,10 @@
 //! Help on a line of which a length, a number or a count is outside its limits.
 ghost use Rattle.std.specs.Prelude.{◌≡◌, ◌++◌, OnOk, string_bytes};
 ghost use Rattle.aud_json.specs.View.{view};
-ghost use Rattle.aud_refusals.specs.LimitHelp.{at_most_text, count_text, excess_text, item_text, length_text, limit_help, node_text, records_text, taps_text};
+ghost use Rattle.aud_refusals.specs.LimitHelp.{at_most_text, count_text, excess_text, limit_help, node_text, records_text, taps_text};
 
 use crate::excess::{Excess, first_excess};
-use crate::member::{Member, text_at};
+use crate::member::text_at;
 use crate::members::members_of;
 use aud_json::Fields;
 use aud_reader::{tap_kind, tap_of_kind};
@@ -26,19 +26,6 @@ const MAX_RECORDS: usize = 4_000_000;
 /// The most different pids of the records of all nodes.
 const MAX_PIDS: usize = 65_536;
 
-fn push_length(out: &mut String, length: usize, most: usize) -> Result<(), AllocError>
-    ensures { OnOk result (string_bytes out.new ≡ string_bytes out.old ++ length_text length most) }
-{
-    writeln!(out, " has {length} bytes; it may have 1 to {most}.")
-}
-
-fn push_item(out: &mut String, member: Member, place: usize) -> Result<(), AllocError>
-    ensures { OnOk result (string_bytes out.new ≡ string_bytes out.old ++ item_text member place) }
-{
-    let key = member.key();
-    write!(out, "Item {place} of the field {key}")
-}
-
 fn push_excess(out: &mut String, excess: Excess) -> Result<(), AllocError>
     ensures { OnOk result (string_bytes out.new ≡ string_bytes out.old ++ excess_text excess) }
 {
@@ -49,8 +36,10 @@ fn push_excess(out: &mut String, excess: Excess) -> Result<(), AllocError>
             most,
         } => {
             let key = member.key();
-            write!(out, "The field {key}")?;
-            push_length(out, length, most)
+            writeln!(
+                out,
+                "The field {key} has {length} bytes; it may have 1 to {most}."
+            )
         }
         Excess::Count {
             member,
@@ -69,8 +58,11 @@ fn push_excess(out: &mut String, excess: Excess) -> Result<(), AllocError>
             length,
             most,
         } => {
-            push_item(out, member, place)?;
-            push_length(out, length, most)
+            let key = member.key();
+            writeln!(
+                out,
+                "Item {place} of the field {key} has {length} bytes; it may have 1 to {most}."
+            )
         }
         Excess::Number {
             member,

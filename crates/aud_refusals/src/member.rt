@@ -13,7 +13,7 @@ use base64::engine::general_purpose::STANDARD;
 use std::alloc::{AllocError, Global};
 
 /// A member of the object of a line: docs/FORMAT.md has the forms of each.
-#[derive(Clone, Copy, Debug, PartialEq, Eq, Drop)]
+#[derive(Clone, Copy, Drop)]
 pub enum Member {
     Kind,
     Version,
@@ -93,23 +93,17 @@ fn has_namespace(key: &str, d: &Fields<'_>) -> bool
     }
 }
 
-fn is_id_or_null(field: &Field<'_>) -> bool
-    ensures { result ≡ is_some (id_or_null (field_view field.now)) }
+fn has_id_or_null(key: &str, d: &Fields<'_>) -> bool
+    ensures { result ≡ is_some (id_or_null_at key.now (view d.now)) }
 {
+    let Some(field) = d.get(key) else {
+        return false;
+    };
     if field.is_null() {
         return true;
     }
     match field.as_str() {
         Some(text) => is_id(text),
-        None => false,
-    }
-}
-
-fn has_id_or_null(key: &str, d: &Fields<'_>) -> bool
-    ensures { result ≡ is_some (id_or_null_at key.now (view d.now)) }
-{
-    match d.get(key) {
-        Some(field) => is_id_or_null(field),
         None => false,
     }
 }
@@ -122,16 +116,6 @@ fn is_base64(alloc: Global, text: &str) -> Result<bool, AllocError>
         Ok(_) => Ok(true),
         Err(DecodeAllocError::OutOfMemory) => Err(AllocError),
         Err(DecodeAllocError::DecodeError(_)) => Ok(false),
-    }
-}
-
-/// Whether an item of a list is a text that spells bytes.
-fn is_blob_item(alloc: Global, item: Option<&str>) -> Result<bool, AllocError>
-    ensures { IfOk result (λ is. is ≡ is_some (as_blob (text_view item.entry))) }
-{
-    match item {
-        Some(text) => is_base64(alloc, text),
-        None => Ok(false),
     }
 }
 
@@ -161,7 +145,10 @@ fn are_blobs(alloc: Global, items: &[Option<&str>]) -> Result<bool, AllocError>
     ensures { IfOk result (λ is. is ≡ is_some (all_items as_blob (list_view items.now))) }
 {
     for item in items {
-        if !is_blob_item(alloc, *item)? {
+        let Some(text) = item else {
+            return Ok(false);
+        };
+        if !is_base64(alloc, text)? {
             return Ok(false);
         }
     }

@@ -2,7 +2,7 @@
 ghost use Rattle.std.specs.Prelude.{◌≡◌, ◌++◌, ◌≤◌, IfOk, OnOk, length, map, string_bytes};
 ghost use Rattle.json.specs.Lex.{tokens};
 ghost use Rattle.json.specs.Reads.{token_of};
-ghost use Rattle.aud_refusals.specs.NoJson.{bytes_front, depth_after, depth_of, fault_in, is_json, no_d, no_json, no_json_text, place_of, read_from, token_fault, token_front, tokens_front};
+ghost use Rattle.aud_refusals.specs.NoJson.{bytes_front, depth_after, depth_of, fault_in, is_json, no_d, no_json, no_json_text, read_from, token_fault, token_front, tokens_front};
 
 use crate::opened::fields_of;
 use crate::token_place::begin_of_token;
@@ -123,15 +123,6 @@ fn tokens_read(alloc: Global, text: &str) -> Result<usize, AllocError>
     Ok(count)
 }
 
-/// Where the first token begins that is not read.
-fn place_of(alloc: Global, text: &str) -> Result<usize, AllocError>
-    ensures place { IfOk result (λ at. at ≡ place_of text.now) }
-    ensures inside { IfOk result (λ at. at ≤ length text.now) }
-{
-    let count = tokens_read(alloc, text)?;
-    Ok(begin_of_token(text.as_bytes(), count))
-}
-
 fn text_front(alloc: Global, text: &str) -> Result<Front, AllocError>
     ensures { IfOk result (λ front. front ≡ tokens_front (tokens text.now)) }
 {
@@ -206,7 +197,8 @@ pub(crate) fn no_json(alloc: Global, text: &str) -> Result<NoJson, AllocError>
     if depth > MAX_DEPTH {
         return Ok(NoJson::Deep(depth));
     }
-    let at = place_of(alloc, text)?;
+    let count = tokens_read(alloc, text)?;
+    let at = begin_of_token(text.as_bytes(), count);
     fault_in(alloc, at, text.as_bytes().split_at(at).1)
 }
 

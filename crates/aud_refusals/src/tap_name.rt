@@ -1,7 +1,6 @@
 //! Help on a line that does not begin with a tap's name and a blank.
 ghost use Rattle.std.specs.Prelude.{◌≡◌, ◌++◌, OnOk, option_map, string_bytes};
 ghost use Rattle.std.specs.List.{list_all};
-ghost use Rattle.aud_tap.specs.Limits.{fits};
 ghost use Rattle.aud_tap.specs.TapName.{is_name_byte, is_tap_name};
 ghost use Rattle.aud_reader.specs.Record.{cut_at_blank};
 ghost use Rattle.aud_refusals.specs.TapName.{begin_text, blank_text, first_blank, first_strange, known_text, name_help, strange_text};
@@ -43,18 +42,14 @@ fn are_name_bytes(name: &[u8]) -> bool
     name.iter().all(|b| is_name_byte(*b))
 }
 
-/// Whether a name has so many bytes.
-fn fits(name: &[u8]) -> bool
-    ensures { result ≡ fits MAX_NAME name.now }
-{
-    !name.is_empty() && name.len() <= MAX_NAME
-}
-
 /// Whether these bytes are a tap's name.
 pub fn is_tap_name(name: &[u8]) -> bool
     ensures { result ≡ is_tap_name name.now }
 {
-    fits(name) && are_name_bytes(name)
+    if name.is_empty() || name.len() > MAX_NAME {
+        return false;
+    }
+    are_name_bytes(name)
 }
 
 fn push_strange(out: &mut String, name: &[u8]) -> Result<(), AllocError>

@@ -1,6 +1,6 @@
 //! At which byte of a text a token begins.
 ghost use Rattle.std.specs.Prelude.{◌≡◌, ◌≤◌, length};
-ghost use Rattle.aud_refusals.specs.NoJson.{after_word, begin_of_token, begins, is_bracket, is_comma_or_colon, is_white, mode_after};
+ghost use Rattle.aud_refusals.specs.NoJson.{begin_of_token, begins, is_bracket, is_comma_or_colon, is_white, mode_after};
 ghost use Rattle.aud_refusals.specs.declared.token_place.Mode.TheVariants.{Between};
 
 /// Within what a byte stands.
@@ -32,22 +32,18 @@ fn is_bracket(b: u8) -> bool
     matches!(b, b'[' | b']' | b'{' | b'}')
 }
 
-fn after_word(b: u8) -> Mode
-    ensures { result ≡ after_word b }
-{
-    if is_white(b) || is_comma_or_colon(b) || is_bracket(b) {
-        Mode::Between
-    } else {
-        Mode::InWord
-    }
-}
-
 fn mode_after(mode: Mode, b: u8) -> Mode
     ensures { result ≡ mode_after mode b }
 {
     match mode {
         Mode::Between if b == b'"' => Mode::InText,
-        Mode::Between | Mode::InWord => after_word(b),
+        Mode::Between | Mode::InWord => {
+            if is_white(b) || is_comma_or_colon(b) || is_bracket(b) {
+                Mode::Between
+            } else {
+                Mode::InWord
+            }
+        }
         Mode::InText if b == b'"' => Mode::Between,
         Mode::InText if b == b'\\' => Mode::InEscape,
         Mode::InText | Mode::InEscape => Mode::InText,

@@ -1,5 +1,5 @@
 -- What the records of a client's tap say: what the packets say that are whole there.
-use Rattle.std.specs.Prelude.{◌≡◌, ◌<◌, ℕ, List, Option, Some, slice_get}
+use Rattle.std.specs.Prelude.{◌≡◌, ◌<◌, ℕ, List, Option, Some, slice_get, take}
 use Rattle.std.specs.List.{Contains}
 use Rattle.std.specs.Option.{option_map}
 use Rattle.aud_tap.specs.declared.records.StreamRec.{StreamRec}
@@ -11,8 +11,7 @@ use Rattle.aud_client.specs.StaySeen.{FrameSeen, ask_of, reply_at, frame_of}
 use Rattle.aud_client.specs.PlacedStays.{PlacedPacket, placed_stays}
 use Rattle.aud_client.specs.AreRecordsOf.{GivesAt}
 use Rattle.aud_rows.specs.Seen.{SaysSeen, Asks, Reply, Got, Lost, Lacks, NoPacket}
-use Rattle.aud_rows.specs.declared.lacking.Attachments.TheVariants.{Spoiled}
-use Rattle.aud_rows.specs.Lacking.{attachments_at}
+use Rattle.aud_rows.specs.Lacking.{last_text, messages_before, messages_in, missing_at_text}
 use Rattle.aud_rows.specs.Marks.{open_before}
 
 -- in a connection with this number, a packet of a stay is whole at the record with this number, and gives this
@@ -31,12 +30,15 @@ pub record Gets (stream : List StreamRec) (recs : List ClientRec) (conn number p
   pub is_of : frame.position ≡ position
   pub has_offset : option_map offset_of (entry stream position) ≡ Some off
 
--- the record with this number has the text of a packet, in a connection with this number, that still lacks so many
--- attachments when the text of a later record comes: of the tap's first that is no packet
+-- the record with this number has the last text, in a connection with this number, before that of a later record, the
+-- tap's first that is no packet; and when that comes, so many attachments of its packet are missing
 pub record IsSpoiled (recs : List ClientRec) (conn number missing : ℕ) : Type 0 where
   pub by : ℕ
+  pub awaited : ℕ
   pub is_bad : (tap_packets recs).bad ≡ Some by
-  pub lacks : attachments_at recs by ≡ Spoiled number missing
+  pub is_last : last_text (messages_before (take by recs)) ≡ Some (number, awaited)
+  pub lacks : missing_at_text awaited (messages_in (slice_get recs by)) ≡ missing
+  pub lacks_some : 0 < missing
   pub is_later : number < by
   pub is_numbered : open_before recs by ≡ Some conn
 

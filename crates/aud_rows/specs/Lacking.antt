@@ -1,72 +1,70 @@
 -- The packet whose attachments were not all there when a text came (Socket.IO protocol 5, "Packet encoding": the
 -- attachments of a packet follow its text at once).
-use Rattle.std.specs.Prelude.{ℕ, ◌-◌, ◌==◌, nat_le, nat_lt, ◌&&◌, Bool, true, List, [], ◌∷◌, flat_map, Option, Some, None, Ok, Err, if◌then◌else◌}
-use Rattle.std.specs.Option.{option_and_then}
+use Rattle.std.specs.Prelude.{ℕ, zero, suc, ◌-◌, List, [], ◌∷◌, flat_map, length, take, Option, Some, None, Result, Ok, Err, slice_get}
+use Rattle.std.specs.Option.{option_and_then, option_or}
 use Rattle.aud_tap.specs.declared.records.ClientRec.{ClientRec}
-use Rattle.aud_sio.specs.Message.{Message, Text, Bytes}
-use Rattle.aud_sio.specs.Packet.{packet_of}
+use Rattle.aud_eio.specs.declared.packet.EioFault.{EioFault}
+use Rattle.aud_eio.specs.Packet as eio
+use Rattle.aud_sio.specs.declared.fault.SioFault.{SioFault}
+use Rattle.aud_sio.specs.Message.{Message, Text, Bytes, messages_of}
+use Rattle.aud_sio.specs.Packet.{PacketSeen, packet_of}
+use Rattle.aud_sio.specs.Wholes.{leading_bytes}
 use Rattle.aud_node.specs.Cluster.{Cluster}
 use Rattle.aud_node.specs.NodeTaps.{client_at}
-use Rattle.aud_client.specs.TapPackets.{messages_at, numbered_records, tap_packets}
+use Rattle.aud_client.specs.TapPackets.{engine_packets, messages_at, numbered_records, tap_packets}
 use Rattle.aud_input.specs.TapLines.{TapLines}
-use Rattle.aud_rows.specs.declared.lacking.Attachments.{Attachments}
-use Rattle.aud_rows.specs.declared.lacking.Attachments.TheVariants.{AllThere, Awaited, Spoiled}
 use Rattle.aud_rows.specs.declared.row.Role.{Role}
-use Rattle.aud_rows.specs.Marks.{marks_of, last_before, open_before}
+use Rattle.aud_rows.specs.Marks.{begin_from, connection_of, open_before}
 use Rattle.aud_rows.specs.Rows.{Said, said_row}
 use Rattle.aud_rows.specs.Seen.{RowSeen, Lacks}
 
--- ---- after some messages
+-- ---- attachments that did not come
 
--- after the text of a packet, at this place: its attachments are awaited, if it has some
-abbrev pub begun : ℕ → List ℕ → Attachments
-begun place text = elim (packet_of text) [
-  | Ok packet ↦ if packet.attachments == 0 then AllThere else Awaited place packet.attachments
-  | Err fault ↦ AllThere
-]
+-- how many attachments a packet has
+abbrev pub attachments_in : Result PacketSeen SioFault → ℕ
+attachments_in (Ok packet) = packet.attachments
+attachments_in (Err fault) = 0
 
--- after a text: one that comes while attachments are awaited spoils the packet that awaits them
-abbrev pub after_text : Attachments → ℕ → List ℕ → Attachments
-after_text AllThere place text = begun place text
-after_text (Awaited number missing) place text = Spoiled number missing
-after_text (Spoiled number missing) place text = Spoiled number missing
+-- the place of the last text of these messages, and how many attachments of its packet do not follow it
+abbrev pub last_text : List (ℕ × Message) → Option (ℕ × ℕ)
+last_text [] = None
+last_text ((place, Text text) ∷ l) = option_or (last_text l) (Some (place, attachments_in (packet_of text) - length (leading_bytes l)))
+last_text ((place, Bytes blob) ∷ l) = last_text l
 
--- after bytes: one fewer is awaited
-abbrev pub after_bytes : Attachments → Attachments
-after_bytes AllThere = AllThere
-after_bytes (Awaited number missing) = if nat_le missing 1 then AllThere else Awaited number (missing - 1)
-after_bytes (Spoiled number missing) = Spoiled number missing
-
--- after messages, each at its place
-abbrev pub after : Attachments → List (ℕ × Message) → Attachments
-after found [] = found
-after found ((place, Text text) ∷ l) = after (after_text found place text) l
-after found ((place, Bytes blob) ∷ l) = after (after_bytes found) l
+-- how many of so many attachments are missing when the first text of these messages comes; none where no text comes
+abbrev pub missing_at_text : ℕ → List Message → ℕ
+missing_at_text missing [] = 0
+missing_at_text missing (Text text ∷ l) = missing
+missing_at_text missing (Bytes blob ∷ l) = missing_at_text (missing - 1) l
 
 -- ---- in a tap
 
--- the record with this number stands past the mark, if there is one
-abbrev pub is_past : Option ℕ → ℕ → Bool
-is_past None number = true
-is_past (Some mark) number = nat_lt mark number
+-- the messages of the connection that goes on after these records, each at its record's number
+abbrev pub messages_before : List ClientRec → List (ℕ × Message)
+messages_before recs = flat_map messages_at (numbered_records (begin_from 0 0 recs) (connection_of recs))
 
--- the messages of the record, where it stands past the mark, and not past the last
-abbrev pub messages_within : Option ℕ → ℕ → (ℕ × ClientRec) → List (ℕ × Message)
-messages_within mark last rec = if is_past mark rec.0 && nat_le rec.0 last then messages_at rec else []
+-- the messages of a record from the server; none where the record is refused
+abbrev pub messages_given : Result (List eio.Packet) EioFault → List Message
+messages_given (Ok packets) = flat_map messages_of packets
+messages_given (Err fault) = []
 
--- what the record with this number and those before it in its connection tell of attachments
-abbrev pub attachments_at : List ClientRec → ℕ → Attachments
-attachments_at recs number = after AllThere (flat_map (messages_within (last_before number (marks_of recs)) number) (numbered_records 0 recs))
+abbrev pub messages_in : Option ClientRec → List Message
+messages_in None = []
+messages_in (Some rec) = messages_given (engine_packets rec)
 
 -- ---- the row
 
--- what the record says of a packet that a text of the record with this number spoils, an earlier record of this connection
-abbrev pub said_where : Option ℕ → ℕ → Attachments → Option Said
-said_where (Some conn) number (Spoiled earlier missing) = if nat_lt earlier number then Some (earlier, Lacks conn missing) else None
-said_where conn number found = None
+-- what is said of the last text before the record with this number, where attachments of its packet are missing when a
+-- text of that record comes
+abbrev pub lacks_said : ℕ → ℕ → ℕ → Option Said
+lacks_said conn earlier zero = None
+lacks_said conn earlier (suc more) = Some (earlier, Lacks conn (suc more))
+
+abbrev pub lacking_after : List ClientRec → ℕ → ℕ → (ℕ × ℕ) → Option Said
+lacking_after recs number conn last = lacks_said conn last.0 (missing_at_text last.1 (messages_in (slice_get recs number)))
 
 abbrev pub lacking_said : List ClientRec → ℕ → Option Said
-lacking_said recs number = said_where (open_before recs number) number (attachments_at recs number)
+lacking_said recs number = option_and_then (λ conn. option_and_then (lacking_after recs number conn) (last_text (messages_before (take number recs)))) (open_before recs number)
 
 abbrev pub lacking_in : Option (List ClientRec) → Option Said
 lacking_in (Some recs) = option_and_then (lacking_said recs) (tap_packets recs).bad

@@ -1,5 +1,5 @@
 -- The connections of a client's tap, by the records at which they begin and are lost.
-use Rattle.std.specs.Prelude.{ℕ, ◌-◌, nat_lt, nat_le, not, Bool, true, false, List, length, Option, Some, None, slice_get}
+use Rattle.std.specs.Prelude.{ℕ, suc, ◌-◌, nat_lt, nat_le, not, Bool, true, false, List, [], ◌∷◌, length, drop, Option, Some, None, slice_get, if◌then◌else◌}
 use Rattle.std.specs.List.{filter}
 use Rattle.std.specs.Option.{option_and_then}
 use Rattle.aud_tap.specs.declared.records.ClientRec.{ClientRec}
@@ -36,3 +36,15 @@ conn_of _ = None
 -- unless the connection was lost there
 abbrev pub open_before : List ClientRec → ℕ → Option ℕ
 open_before recs number = option_and_then (λ mark. conn_of (slice_get recs mark)) (last_before number (marks_of recs))
+
+-- ---- the connection that goes on after records
+
+-- the number of the record after the last mark, where the connection begins at this one and these come next, the first
+-- of which has this number
+abbrev pub begin_from : ℕ → ℕ → List ClientRec → ℕ
+begin_from begin number [] = begin
+begin_from begin number (rec ∷ recs) = begin_from (if is_mark (Some rec) then suc number else begin) (suc number) recs
+
+-- the records of these past the last mark
+abbrev pub connection_of : List ClientRec → List ClientRec
+connection_of recs = drop (begin_from 0 0 recs) recs

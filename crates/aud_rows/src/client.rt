@@ -5,7 +5,7 @@ ghost use Rattle.aud_rows.specs.StayRows.{ask_said, frame_said, reply_said};
 ghost use Rattle.aud_rows.specs.Private.SaidAt.{said_seen};
 
 use crate::row::Says;
-use aud_client::{Frame, Stay, StayPlaces};
+use aud_client::{Stay, StayPlaces};
 use aud_node::Stream;
 use aud_tap::Text;
 
@@ -56,7 +56,7 @@ pub fn frame_said<'r>(
         (slice_get stay.now.frames frame) }
 {
     let number = *places.frames.get(frame)? as usize;
-    let position = position_of(stay.frames.get(frame)?);
+    let position = stay.frames.get(frame)?.position;
     let entry = stream.entry(position)?;
     let says = Says::Got {
         conn: stay.c,
@@ -64,12 +64,6 @@ pub fn frame_said<'r>(
         off: entry.offset().as_str(),
     };
     Some(SaidAt { number, says })
-}
-
-fn position_of(frame: &Frame<'_>) -> u64
-    ensures { result ≡ frame.now.position }
-{
-    frame.position
 }
 
 /// The text, borrowed.

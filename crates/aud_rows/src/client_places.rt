@@ -1,16 +1,16 @@
 //! Where the connections of a client's tap begin and are lost.
-ghost use Rattle.std.specs.Prelude.{◌≡◌, ◌++◌, ◌∷◌, [], IfOk, OnOk, Some, if◌then◌else◌, slice_get};
+ghost use Rattle.std.specs.Prelude.{◌≡◌, ◌++◌, ◌∷◌, [], IfOk, OnOk, Some, if◌then◌else◌};
 ghost use Rattle.std.specs.List.Sorted.{IsNonDecreasing};
 ghost use Rattle.aud_node.specs.NodeTaps.{client_at};
 ghost use Rattle.aud_rows.specs.ClientPlaces.{AreOf, marks_in};
-ghost use Rattle.aud_rows.specs.Marks.{conn_of, first_past, is_mark, last_before, marks_of};
+ghost use Rattle.aud_rows.specs.Marks.{first_past, is_mark, last_before, marks_of};
 
 use aud_node::Logs;
 use aud_tap::ClientRec;
 use std::alloc::{AllocError, Global};
 
 /// Where the connections of a client's tap begin and are lost: made once a tap. Records count from 0 after the header.
-#[derive(Debug, Drop)]
+#[derive(Drop)]
 pub struct ClientPlaces {
     /// The place of the tap, from 0 in the order of the headers.
     pub place: usize,
@@ -24,18 +24,11 @@ impl ClientPlaces {
         ensures place { IfOk result (λ tap. tap.place ≡ place) }
         ensures records { IfOk result (AreOf logs.now) }
     {
-        let marks = marks_at(alloc, logs, place)?;
+        let marks = match logs.client(place) {
+            Some(recs) => marks_of(alloc, recs)?,
+            None => Vec::new(alloc),
+        };
         Ok(ClientPlaces { place, marks })
-    }
-}
-
-/// The marks of the tap at this place; none where it is no client's.
-fn marks_at(alloc: Global, logs: &Logs<'_>, place: usize) -> Result<Vec<usize>, AllocError>
-    ensures { IfOk result (λ marks. marks.items ≡ marks_in (client_at logs.now place)) }
-{
-    match logs.client(place) {
-        Some(recs) => marks_of(alloc, recs),
-        None => Ok(Vec::new(alloc)),
     }
 }
 
@@ -61,14 +54,11 @@ fn note_mark(marks: &mut Vec<usize>, number: usize, rec: &ClientRec) -> Result<(
     Ok(())
 }
 
-fn is_mark(rec: &ClientRec) -> bool
+/// Whether the record begins a connection, or loses it.
+pub(crate) fn is_mark(rec: &ClientRec) -> bool
     ensures { result ≡ is_mark (Some rec.now) }
 {
-    match rec {
-        ClientRec::Conn { .. } => true,
-        ClientRec::Lost => true,
-        _ => false,
-    }
+    matches!(rec, ClientRec::Conn { .. } | ClientRec::Lost)
 }
 
 /// The first mark past the number.
@@ -89,14 +79,4 @@ pub fn last_before(number: usize, marks: &[usize]) -> Option<usize>
     let count = marks.partition_point(|mark| *mark < number);
     let (before, _) = marks.split_at(count);
     before.last().copied()
-}
-
-/// The number of the connection that the record at this mark begins.
-pub fn conn_at(recs: &[ClientRec], mark: usize) -> Option<u64>
-    ensures { result ≡ conn_of (slice_get recs.now mark) }
-{
-    match recs.get(mark) {
-        Some(ClientRec::Conn { c }) => Some(*c),
-        _ => None,
-    }
 }

@@ -1,12 +1,12 @@
 //! What the records of a client's tap say that carry no packet.
 ghost use Rattle.std.specs.Prelude.{◌≡◌};
 ghost use Rattle.std.specs.Option.{option_copied, option_map};
-ghost use Rattle.aud_rows.specs.EndRows.{bad_said, is_lost, lost_past, lost_said};
+ghost use Rattle.aud_rows.specs.EndRows.{bad_said, is_lost, lost_past};
 ghost use Rattle.aud_rows.specs.Marks.{marks_of, open_before};
 ghost use Rattle.aud_rows.specs.Private.SaidAt.{said_seen};
 
 use crate::client::SaidAt;
-use crate::client_places::{conn_at, first_past, last_before};
+use crate::client_places::{first_past, last_before};
 use crate::row::Says;
 use aud_tap::ClientRec;
 
@@ -16,20 +16,12 @@ pub fn lost_past<'r>(recs: &[ClientRec], marks: &[usize], number: usize) -> Opti
     ensures { option_map said_seen result ≡ lost_past recs.now number }
 {
     let mark = first_past(number, marks)?;
-    lost_said(recs, marks, mark)
-}
-
-/// The record with this number, if it loses a connection.
-fn lost_said<'r>(recs: &[ClientRec], marks: &[usize], number: usize) -> Option<SaidAt<'r>>
-    requires { marks.now ≡ marks_of recs.now }
-    ensures { option_map said_seen result ≡ lost_said recs.now number }
-{
-    if !is_lost(recs.get(number)) {
+    if !is_lost(recs.get(mark)) {
         return None;
     }
-    let conn = open_before(recs, marks, number)?;
+    let conn = open_before(recs, marks, mark)?;
     Some(SaidAt {
-        number,
+        number: mark,
         says: Says::Lost { conn },
     })
 }
@@ -51,8 +43,10 @@ pub fn open_before(recs: &[ClientRec], marks: &[usize], number: usize) -> Option
     requires { marks.now ≡ marks_of recs.now }
     ensures { result ≡ open_before recs.now number }
 {
-    let mark = last_before(number, marks)?;
-    conn_at(recs, mark)
+    match recs.get(last_before(number, marks)?) {
+        Some(ClientRec::Conn { c }) => Some(*c),
+        _ => None,
+    }
 }
 
 fn is_lost(rec: Option<&ClientRec>) -> bool

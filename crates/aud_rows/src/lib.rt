@@ -10,10 +10,10 @@
 //! let sheet = Sheet { recording: &recording, lines: &lines };
 //! let row = sheet.stream_row(1, Role::Entry).ok_or("no entry")?;
 //! assert_eq!(rt; row.line, 2);
-//! assert_eq!(rt; row.says, Says::Entry { position: 1, off: "1-0" });
+//! assert!(rt; matches!(row.says, Says::Entry { position: 1, off: "1-0" }));
 //! let tap = ClientPlaces::read(alloc, recording.logs(), 2)?;
 //! let row = sheet.frame_row(&tap, 0, 0, Role::Fault).ok_or("no frame")?;
-//! assert_eq!(rt; row.says, Says::Got { conn: 1, position: 1, off: "1-0" });
+//! assert!(rt; matches!(row.says, Says::Got { conn: 1, position: 1, off: "1-0" }));
 //! ```
 #![tactic(auto)]
 
@@ -22,11 +22,13 @@ mod client_places;
 mod ends;
 mod lacking;
 mod node;
+mod packets;
 mod row;
 mod sheet;
 mod stream;
 mod turn;
 
 pub use client_places::ClientPlaces;
+pub use packets::{begin_of, packets_of};
 pub use row::{Role, Row, Says};
 pub use sheet::Sheet;

@@ -1,7 +1,7 @@
 //! A record of the bundle, as an explanation shows it.
 
 /// A record of the bundle, as an explanation shows it: where it stands, what it says, and what it is shown for.
-#[derive(Clone, Copy, Debug, PartialEq, Eq, Drop)]
+#[derive(Clone, Copy, Debug, Drop)]
 pub struct Row<'r> {
     /// The line of the input that the record stands on; lines count from 1.
     pub line: u64,
@@ -18,7 +18,7 @@ pub struct Row<'r> {
 
 /// What a record says, in the words of the session that it speaks of. Positions count from 1, turns from 0; cursors are
 /// those of the node after the record. Texts are borrowed.
-#[derive(Clone, Copy, Debug, PartialEq, Eq, Drop)]
+#[derive(Clone, Copy, Debug, Drop)]
 pub enum Says<'r> {
     /// An entry of the stream.
     Entry {
@@ -96,7 +96,7 @@ pub enum Says<'r> {
 }
 
 /// What a row is shown for.
-#[derive(Clone, Copy, Debug, PartialEq, Eq, Drop)]
+#[derive(Clone, Copy, Debug, Drop)]
 pub enum Role {
     /// The record at which what was received parts from what was due, or the first that does not fit.
     Fault,

@@ -1,9 +1,9 @@
 //! The rows of a session's turns.
 ghost use Rattle.std.specs.Prelude.{◌≡◌, ◌<◌, true, IfSome};
-ghost use Rattle.std.specs.Option.{option_copied, option_map};
+ghost use Rattle.std.specs.Option.{option_map};
 ghost use Rattle.aud_rows.specs.Seen.{row_seen};
 ghost use Rattle.aud_rows.specs.TrueRow.{IsTrueRow};
-ghost use Rattle.aud_rows.specs.TurnRows.{begin_row, break_row, is_break, is_broken};
+ghost use Rattle.aud_rows.specs.TurnRows.{begin_row, break_row, is_broken};
 
 use crate::row::{Role, Row};
 use crate::sheet::Sheet;
@@ -46,11 +46,5 @@ fn is_broken(logs: &Logs<'_>, turn: TurnPlace) -> bool
     let Some(log) = logs.node(turn.node) else {
         return false;
     };
-    is_break(log.recs().get(turn.to - 1))
-}
-
-fn is_break(rec: Option<&NodeRec>) -> bool
-    ensures { result ≡ is_break (option_copied rec.entry) }
-{
-    matches!(rec, Some(NodeRec::Broke { .. }))
+    matches!(log.recs().get(turn.to - 1), Some(NodeRec::Broke { .. }))
 }

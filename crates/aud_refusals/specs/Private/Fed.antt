@@ -1,29 +1,24 @@
 -- What an assembler was given, and what it refused.
 use Rattle.std.specs.Prelude.{◌≡◌, ℕ, List, [], ◌∷◌, ◌++◌, Option, Some, None, Result, Ok, Err}
-use Rattle.std.specs.Option.{option_or}
-use Rattle.aud_eio.specs.Body.{body_pieces}
 use Rattle.aud_sio.specs.declared.fault.SioFault.{SioFault}
-use Rattle.aud_sio.specs.Message.{Message, Bytes, Lent, at}
+use Rattle.aud_sio.specs.Message.{Message}
 use Rattle.aud_sio.specs.Wholes.{Answer}
 use Rattle.aud_sio.specs.Assembly.{Continues, Waits, wholes_after}
 use Rattle.aud_tap.specs.declared.records.ClientRec.{ClientRec}
-use Rattle.aud_tap.specs.declared.records.ClientRec.TheVariants.{TextIn, BytesIn, Poll}
+use Rattle.aud_client.specs.TapPackets.{engine_packets}
 use Rattle.aud_refusals.specs.declared.no_packet.NoPacket.{NoPacket}
-use Rattle.aud_refusals.specs.NoPacket.{alone, engine_refusal, first_refusal, packet_messages}
+use Rattle.aud_refusals.specs.NoPacket.{engine_refusal, first_refusal, packet_messages, texts_of}
 
 -- the first refusal of what comes after the messages held
 abbrev pub refusal_to : List Message → List (ℕ × Message) → Option NoPacket
 refusal_to held l = first_refusal (wholes_after held l)
 
-abbrev pub texts_refusal_to : List Message → List (List ℕ) → Option NoPacket
-texts_refusal_to held texts = option_or (engine_refusal 1 texts) (refusal_to held (packet_messages 1 texts))
-
 -- the refusal of the record that comes after the messages held
 abbrev pub refused_to : List Message → ClientRec → Option NoPacket
-refused_to held (TextIn t) = alone (texts_refusal_to held (t ∷ []))
-refused_to held (BytesIn b) = alone (refusal_to held (at 1 (Bytes (Lent b) ∷ [])))
-refused_to held (Poll t) = texts_refusal_to held (body_pieces t)
-refused_to held _ = None
+refused_to held rec = elim (engine_packets rec) [
+  | Ok packets ↦ refusal_to held (packet_messages 1 packets)
+  | Err fault ↦ engine_refusal 1 (texts_of rec)
+]
 
 -- the first fault of answers
 abbrev pub first_fault : List Answer → Option SioFault

@@ -1,6 +1,6 @@
 use Rattle.std.proofs.Common.{◌≡◌, ◌+◌, drop, map}
 use Rattle.aud_refusals.specs.NoPacket.{engine_refusal}
-use Rattle.aud_refusals.proofs.pieces.engine_refusal.Given as goal
+use Rattle.aud_refusals.proofs.texts.engine_refusal.Given as goal
 
 -- what is to come gives the refusal
 abbrev pub invariant-loop-i : goal.invariant-loop-i

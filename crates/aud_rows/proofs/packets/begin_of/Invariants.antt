@@ -1,6 +1,6 @@
 use Rattle.std.proofs.Common.{◌≡◌, ◌≤◌, drop}
-use Rattle.aud_refusals.specs.NoPacket.{begin_from}
-use Rattle.aud_refusals.proofs.begin.begin_of.Given as goal
+use Rattle.aud_rows.specs.Marks.{begin_from}
+use Rattle.aud_rows.proofs.packets.begin_of.Given as goal
 
 -- what is to come moves the begin as it does from the front
 abbrev pub invariant-loop-number : goal.invariant-loop-number

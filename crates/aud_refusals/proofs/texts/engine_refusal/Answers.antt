@@ -1,6 +1,6 @@
 use Rattle.std.proofs.Common.{◌∙◌}
 use Rattle.aud_refusals.proofs.Going.{engine-past}
-use Rattle.aud_refusals.proofs.pieces.engine_refusal.Goals as goal
+use Rattle.aud_refusals.proofs.texts.engine_refusal.Goals as goal
 
 pub loop-i-preserved : goal.loop-i-preserved
 loop-i-preserved c =

@@ -1,7 +1,7 @@
 use Rattle.std.proofs.Common.{◌≡◌, ◌++◌, List, ℕ, map}
 use Rattle.std.proofs.lemmas.Iterator.{YieldsList}
 use Rattle.aud_eio.specs.Body.{body_pieces}
-use Rattle.aud_refusals.proofs.pieces.pieces_of.Given as goal
+use Rattle.aud_refusals.proofs.texts.pieces_of.Given as goal
 
 abbrev pub invariant-loop-piece : goal.invariant-loop-piece
 invariant-loop-piece l =

@@ -3,7 +3,7 @@ use Rattle.std.proofs.lemmas.List.{map-append, append-nil, append_assoc}
 use Rattle.std.proofs.lemmas.Iterator.Splits.{YieldsList-from_str_split}
 use Rattle.aud_eio.specs.Body.{body_pieces}
 use Rattle.aud_eio.proofs.Bodies.{after_some, after_none}
-use Rattle.aud_refusals.proofs.pieces.pieces_of.Goals as goal
+use Rattle.aud_refusals.proofs.texts.pieces_of.Goals as goal
 
 pub loop-piece-init : goal.loop-piece-init
 loop-piece-init c =

@@ -1,14 +1,33 @@
-//! The texts of a polling body.
+//! The texts of a record's packets.
 ghost use Rattle.std.specs.Prelude.{◌≡◌, IfOk, map};
 ghost use Rattle.aud_eio.specs.Body.{body_pieces};
-ghost use Rattle.aud_refusals.specs.NoPacket.{engine_refusal, engine_refused};
+ghost use Rattle.aud_refusals.specs.NoPacket.{engine_refusal, engine_refused, texts_of};
 
 use crate::no_packet::{NoPacket, Refusal};
 use aud_eio::{EioFault, decode_text};
+use aud_tap::ClientRec;
 use std::alloc::{AllocError, Global};
 
-/// The texts of a body's packets, borrowed.
-pub(crate) fn pieces_of(alloc: Global, body: &str) -> Result<Vec<&str>, AllocError>
+/// The texts of a record's packets, borrowed.
+pub(crate) fn texts_of(alloc: Global, rec: &ClientRec) -> Result<Vec<&str>, AllocError>
+    ensures { IfOk result (λ texts. map (λ text. text.now) texts.items ≡ texts_of rec.now) }
+{
+    match rec {
+        ClientRec::TextIn { t } => {
+            let mut texts = Vec::new(alloc);
+            texts.push(t.as_str())?;
+            Ok(texts)
+        }
+        ClientRec::Poll { t } => pieces_of(alloc, t.as_str()),
+        ClientRec::Conn { .. }
+        | ClientRec::BytesIn { .. }
+        | ClientRec::TextOut { .. }
+        | ClientRec::Lost => Ok(Vec::new(alloc)),
+    }
+}
+
+/// The texts of a polling body, borrowed.
+fn pieces_of(alloc: Global, body: &str) -> Result<Vec<&str>, AllocError>
     ensures { IfOk result (λ pieces. map (λ piece. piece.now) pieces.items ≡ body_pieces body.now) }
 {
     let mut pieces = Vec::new(alloc);
