@@ -5,18 +5,10 @@ use Rattle.aud_explanation.specs.declared.name.Names.TheVariants.{Short}
 use Rattle.aud_explanation.specs.Named.{name_words}
 use Rattle.aud_explanation.specs.Page.{laid_line}
 
--- the words that come first
-unfoldable pub the_same : List ℕ
-the_same = codes "    the same of "
-
 -- the word for these sessions
 abbrev pub sessions_word : List (Bor (List ℕ)) → List ℕ
 sessions_word (pid ∷ []) = codes " more session:"
 sessions_word pids = codes " more sessions:"
-
--- how many there are
-abbrev pub alike_count : List (Bor (List ℕ)) → List ℕ
-alike_count pids = the_same ++ decimal (length pids) ++ sessions_word pids
 
 -- a pid after a blank
 abbrev pub pid_listed : Bor (List ℕ) → List ℕ
@@ -24,7 +16,7 @@ pid_listed pid = codes " " ++ name_words Short pid.now
 
 -- how many there are, and their pids: `the same of 2 more sessions: P2 P3`
 abbrev pub alike_line : List (Bor (List ℕ)) → List ℕ
-alike_line pids = alike_count pids ++ flat_map pid_listed pids
+alike_line pids = codes "    the same of " ++ decimal (length pids) ++ sessions_word pids ++ flat_map pid_listed pids
 
 -- its line, where there are any
 abbrev pub alike_text : List (Bor (List ℕ)) → List ℕ

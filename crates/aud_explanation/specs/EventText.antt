@@ -1,19 +1,15 @@
 -- The row of what happened to the client.
-use Rattle.std.specs.Prelude.{ℕ, ◌+◌, ◌==◌, min, Bool, List, [], ◌∷◌, ◌++◌, codes, decimal, fold, length, map, nat_le, if◌then◌else◌, Option, Some, None}
+use Rattle.std.specs.Prelude.{ℕ, ◌+◌, ◌==◌, min, Bool, List, [], ◌∷◌, ◌++◌, codes, decimal, fold, length, map, nat_le, if◌then◌else◌, Some, None}
 use Rattle.aud_explanation.specs.declared.event.ClientEvent.{ClientEvent}
 use Rattle.aud_explanation.specs.declared.event.Happens.{Happens}
 use Rattle.aud_explanation.specs.declared.event.Happens.TheVariants.{Asks, Reply, Refused, Got, Lost}
 use Rattle.aud_explanation.specs.Long.{first_shown, last_shown, left_out, more_words}
 use Rattle.aud_explanation.specs.Span.{span}
 
--- the position after which the client asks to go on
-abbrev pub after_words : Option ℕ → List ℕ
-after_words (Some position) = codes " asks after " ++ decimal position
-after_words None = codes " asks"
-
--- what happens
+-- what happens, and where a client asks to go on
 abbrev pub happens_words : Happens → List ℕ
-happens_words (Asks after) = after_words after
+happens_words (Asks None) = codes " asks"
+happens_words (Asks (Some position)) = codes " asks after " ++ decimal position
 happens_words Reply = codes " reply"
 happens_words Refused = codes " refused"
 happens_words (Got from to) = codes " got " ++ span from to

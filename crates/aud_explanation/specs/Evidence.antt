@@ -6,7 +6,8 @@ use Rattle.aud_input.specs.declared.input_file.InputFile.{InputFile}
 use Rattle.aud_input.specs.InputFiles.{place_told}
 use Rattle.aud_explanation.specs.declared.name.Names.TheVariants.{Short}
 use Rattle.aud_explanation.specs.Page.{laid_line, to_left, to_right}
-use Rattle.aud_explanation.specs.Record.{record_text, other_session, of_words}
+use Rattle.aud_explanation.specs.Named.{named_words}
+use Rattle.aud_explanation.specs.Record.{record_text, other_session}
 use Rattle.aud_explanation.specs.Long.{first_shown, last_shown, more_line}
 use Rattle.aud_explanation.specs.LongRows.{kept_rows, rows_left}
 use Rattle.aud_explanation.specs.Mark.{mark}
@@ -16,20 +17,17 @@ use Rattle.aud_explanation.specs.Place.{place_text}
 abbrev pub tap_width : List Row → ℕ
 tap_width rows = fold (λ width row. max width (length row.tap.now)) 3 rows
 
--- what the record of a row says, and of which session, where that isn't the one with this pid
-abbrev pub said_words : List ℕ → Row → List ℕ
-said_words pid row = record_text Short row.says ++ of_words (other_session pid row.session)
-
--- a row: the line, the tap, what the record says, and what it is shown for
+-- a row: the line, the tap, what the record says, of which session, where that isn't the one with this pid, and what it
+-- is shown for
 abbrev pub row_words : List ℕ → Verdict → ℕ → Row → List ℕ
-row_words pid verdict width row = to_right 8 (decimal row.line) ++ codes " " ++ to_left width row.tap.now ++ codes "  " ++ said_words pid row ++ mark row.role verdict
+row_words pid verdict width row = to_right 8 (decimal row.line) ++ codes " " ++ to_left width row.tap.now ++ codes "  " ++ record_text Short row.says ++ named_words Short (codes " of ") (other_session pid row.session) [] ++ mark row.role verdict
 
 -- the same, and where the line stands, where there are several files
 abbrev pub row_line : List InputFile → List ℕ → Verdict → ℕ → Row → List ℕ
 row_line files pid verdict width row = row_words pid verdict width row ++ place_text (place_told files row.line)
 
 -- its line, laid out
-abbrev pub row_text : List InputFile → List ℕ → Verdict → ℕ → Row → List ℕ
+unfoldable pub row_text : List InputFile → List ℕ → Verdict → ℕ → Row → List ℕ
 row_text files pid verdict width row = laid_line (row_line files pid verdict width row)
 
 -- the heading of the table

@@ -1,7 +1,7 @@
--- The member of the refused recoveries.
+-- A refused recovery as an object.
 use Rattle.std.specs.Prelude.{ℕ, List, codes, Option, Some, None}
 use Rattle.std.specs.Option.{option_copied}
-use Rattle.serde_json.specs.Data.{Data, boolean, null, string, array, object, Members, no_members, member, put}
+use Rattle.serde_json.specs.Data.{Data, boolean, null, string, array, object, no_members, member}
 use Rattle.aud_cert.specs.Text.{items, whole}
 use Rattle.aud_input.specs.declared.input_file.InputFile.{InputFile}
 use Rattle.aud_rows.specs.declared.row.Row.{Row}
@@ -40,8 +40,3 @@ refused_data files pid r =
     (member (codes "missed_left") (missed_left_data (option_copied r.missed))
     (member (codes "refuted") (array (items text_data r.refuted.now))
     (member (codes "reply") (reply_data files pid r.reply) no_members)))))))
-
--- the refused recoveries that are shown of the session with this pid, and how many are left out after the hundredth
-unfoldable pub with_refused : List InputFile → List ℕ → List RefusedRecovery → Members → Members
-with_refused files pid recoveries ms =
-    put (codes "refused_left") (whole (left_out recoveries)) (put (codes "refused") (array (items (refused_data files pid) (all_shown recoveries))) ms)

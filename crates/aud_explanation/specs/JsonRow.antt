@@ -1,4 +1,4 @@
--- The member of the evidence.
+-- A row as an object, and the members of the evidence.
 use Rattle.std.specs.Prelude.{ℕ, List, codes}
 use Rattle.serde_json.specs.Data.{Data, string, array, object, Members, no_members, put}
 use Rattle.aud_cert.specs.Text.{items, whole}
@@ -27,18 +27,16 @@ role_word Back = codes "back"
 role_word Ask = codes "ask"
 role_word Reply = codes "reply"
 
--- the line, the session, where it isn't the one with this pid, what the record is shown for, what it says, and its tap
-unfoldable pub with_row : List ℕ → Row → Members → Members
-with_row pid row ms =
-    put (codes "tap") (string row.tap.now)
-    (put (codes "says") (string (record_text Whole row.says))
+-- `{"file":..,"file_line":..,"line":..,"of":..,"role":..,"says":..,"tap":..}`: the session where it isn't the one with this
+-- pid
+unfoldable pub row_data : List InputFile → List ℕ → Row → Data
+row_data files pid row =
+    object (put (codes "tap") (string row.tap.now)
     (put (codes "role") (string (role_word row.role))
     (put (codes "of") (text_or_null (other_session pid row.session))
-    (put (codes "line") (whole row.line) ms))))
-
--- `{"file":..,"file_line":..,"line":..,"of":..,"role":..,"says":..,"tap":..}`
-abbrev pub row_data : List InputFile → List ℕ → Row → Data
-row_data files pid row = object (with_row pid row (with_place (place_told files row.line) no_members))
+    (put (codes "says") (string (record_text Whole row.says))
+    (put (codes "line") (whole row.line)
+    (with_place (place_told files row.line) no_members))))))
 
 -- the rows that are shown of the session with this pid, and how many are left out
 unfoldable pub with_evidence : List InputFile → List ℕ → List Row → Members → Members

@@ -1,6 +1,6 @@
--- The member of the turns.
+-- A turn as an object.
 use Rattle.std.specs.Prelude.{ℕ, List, [], ◌∷◌, codes, Option, Some, None}
-use Rattle.serde_json.specs.Data.{Data, null, string, array, object, Members, no_members, member, put}
+use Rattle.serde_json.specs.Data.{Data, null, string, array, object, no_members, member}
 use Rattle.aud_cert.specs.Text.{items, whole}
 use Rattle.aud_explanation.specs.declared.turn.TurnShown.{TurnShown}
 use Rattle.aud_explanation.specs.declared.turn.TurnBegin.{TurnBegin}
@@ -8,7 +8,6 @@ use Rattle.aud_explanation.specs.declared.turn.TurnBegin.TheVariants.{Open, Back
 use Rattle.aud_explanation.specs.declared.turn.TurnEnd.{TurnEnd}
 use Rattle.aud_explanation.specs.declared.turn.TurnEnd.TheVariants.{Break, Gone, Log, Missing}
 use Rattle.aud_explanation.specs.JsonValue.{number_or_null}
-use Rattle.aud_explanation.specs.Long.{all_shown, left_out}
 
 -- how a turn begins
 abbrev pub begin_word : TurnBegin → List ℕ
@@ -41,23 +40,14 @@ abbrev pub took_data : Option (ℕ × ℕ) → Data
 took_data (Some took) = array (items whole (took.0 ∷ took.1 ∷ []))
 took_data None = null
 
--- how a turn begins and ends, in front of other members
-abbrev pub turn_ends : TurnShown → Members → Members
-turn_ends t others =
-    member (codes "begin") (string (begin_word t.begin))
-    (member (codes "end") (string (end_word t.end))
-    (member (codes "high") (number_or_null (high_at t.end))
-    (member (codes "lines") (lines_data t.begin_line t.end) others)))
-
 -- `{"begin":..,"end":..,"high":..,"lines":..,"low":..,"node":..,"took":..,"turn":..}`
 abbrev pub turn_data : TurnShown → Data
 turn_data t =
-    object (turn_ends t
+    object (member (codes "begin") (string (begin_word t.begin))
+    (member (codes "end") (string (end_word t.end))
+    (member (codes "high") (number_or_null (high_at t.end))
+    (member (codes "lines") (lines_data t.begin_line t.end)
     (member (codes "low") (whole t.low)
     (member (codes "node") (string t.node.now)
     (member (codes "took") (took_data t.took)
-    (member (codes "turn") (whole t.turn) no_members)))))
-
--- the turns that are shown, and how many are left out after the hundredth
-unfoldable pub with_turns : List TurnShown → Members → Members
-with_turns turns ms = put (codes "turns_left") (whole (left_out turns)) (put (codes "turns") (array (items turn_data (all_shown turns))) ms)
+    (member (codes "turn") (whole t.turn) no_members))))))))

@@ -5,7 +5,6 @@ pub use Rattle.aud_cert.specs.Class
 pub use Rattle.aud_cert.specs.FaultWord
 pub use Rattle.aud_input.specs.InputFiles
 pub mod ExplainedClass
-pub mod FaultEntry
 pub mod ShownTail
 pub mod Printed
 pub mod Long
@@ -33,7 +32,6 @@ pub mod JsonAccount
 pub mod JsonRow
 pub mod JsonTurn
 pub mod JsonAlso
-pub mod JsonAlike
 pub mod JsonRefused
 pub mod JsonEvent
 pub mod JsonCause

@@ -1,5 +1,5 @@
 -- A name that others chose, as it stands in a line: as it is where it is plain, else between quotes.
-use Rattle.std.specs.Prelude.{◌≡◌, ℕ, ◌==◌, Bool, not, ◌&&◌, ◌||◌, List, ◌++◌, codes, flat_map, length, nat_lt, encode_utf8, if◌then◌else◌}
+use Rattle.std.specs.Prelude.{◌≡◌, ℕ, ◌==◌, Bool, not, ◌&&◌, ◌||◌, List, ◌++◌, codes, flat_map, length, nat_lt, encode_utf8, if◌then◌else◌, Option, Some, None}
 use Rattle.std.specs.Char.{is_control, is_whitespace}
 use Rattle.std.specs.List.{list_all}
 use Rattle.std.specs.Str.{chars, IsUtf8}
@@ -51,6 +51,11 @@ name_of Short name cs = short_of name cs
 -- a name, whole or short
 unfoldable pub name_words : Names → List ℕ → List ℕ
 name_words names name = name_of names name (chars name)
+
+-- a name behind words, or other words where there is none
+unfoldable pub named_words : Names → List ℕ → Option (List ℕ) → List ℕ → List ℕ
+named_words names words (Some name) none = words ++ name_words names name
+named_words names words None none = none
 
 -- names that are printed alike are the same
 abbrev pub NamesApart : Type 0

@@ -8,34 +8,21 @@ use Rattle.aud_explanation.specs.declared.refused.Missed.{Missed}
 use Rattle.aud_explanation.specs.declared.refused.RefusedRecovery.{RefusedRecovery}
 use Rattle.aud_explanation.specs.Long.{first_shown, last_shown, left_out, more_line}
 use Rattle.aud_explanation.specs.declared.name.Names.TheVariants.{Short}
-use Rattle.aud_explanation.specs.Named.{name_words}
+use Rattle.aud_explanation.specs.Named.{name_words, named_words}
 use Rattle.aud_explanation.specs.Page.{laid_line}
 use Rattle.aud_explanation.specs.Evidence.{row_text}
-
--- the words before the session that the client got
-unfoldable pub got_session : List ℕ
-got_session = codes "got session "
-
--- this session
-abbrev pub got_words : List ℕ → List ℕ
-got_words pid = got_session ++ name_words Short pid
-
--- the session that the client got instead
-abbrev pub instead_words : Option (List ℕ) → List ℕ
-instead_words (Some pid) = got_words pid
-instead_words None = codes "got no session"
 
 -- how many entries it missed
 abbrev pub count_words : Option (List Missed) → List ℕ
 count_words (Some entries) = codes ", missed " ++ decimal (length entries)
 count_words None = codes ", missed: not known"
 
--- the line of a refused recovery
+-- the line of a refused recovery, with the session that the client got instead
 abbrev pub head_line : RefusedRecovery → List ℕ
-head_line r = codes "refused recovery: " ++ instead_words (option_copied r.instead) ++ count_words (option_copied r.missed)
+head_line r = codes "refused recovery: " ++ named_words Short (codes "got session ") (option_copied r.instead) (codes "got no session") ++ count_words (option_copied r.missed)
 
 -- the same, laid out
-abbrev pub head_text : RefusedRecovery → List ℕ
+unfoldable pub head_text : RefusedRecovery → List ℕ
 head_text r = laid_line (head_line r)
 
 -- the row of the reply, where there is one

@@ -1,9 +1,14 @@
 -- Numbers, in words.
-use Rattle.std.specs.Prelude.{ℕ, List, [], ◌∷◌, ◌++◌, ◌==◌, codes, decimal, flat_map, if◌then◌else◌}
+use Rattle.std.specs.Prelude.{ℕ, List, [], ◌∷◌, ◌++◌, ◌==◌, codes, decimal, flat_map, if◌then◌else◌, Option, Some, None}
 
 -- the numbers from one to another
 abbrev pub span : ℕ → ℕ → List ℕ
 span from to = if from == to then decimal from else decimal from ++ codes "-" ++ decimal to
+
+-- a number behind its words, where it is known
+abbrev pub known_words : List ℕ → Option ℕ → List ℕ
+known_words words (Some number) = words ++ decimal number
+known_words words None = []
 
 -- one of several numbers
 abbrev pub one_listed : ℕ → List ℕ

@@ -1,7 +1,7 @@
 //! Other entries with the same fault.
 
 /// Entries, one after the other in the stream, that have the fault too.
-#[derive(Clone, Copy, Debug, Drop)]
+#[derive(Clone, Copy, Drop)]
 pub struct Also<'r> {
     /// The first of them; positions count from 1.
     pub position: u64,

@@ -3,7 +3,7 @@ ghost use Rattle.std.specs.Prelude.{◌≡◌};
 ghost use Rattle.aud_explanation.specs.CauseState.{is_certain, state_word};
 
 /// How a cause stands, whose test over the records holds.
-#[derive(Clone, Copy, Debug, PartialEq, Eq, Drop)]
+#[derive(Clone, Copy, Debug, PartialEq, Drop)]
 pub enum CauseState {
     /// It alone holds of those that are known, and others were ruled out.
     Certain,
@@ -34,7 +34,7 @@ impl CauseState {
 }
 
 /// What a cause is of.
-#[derive(Clone, Copy, Debug, PartialEq, Eq, Drop)]
+#[derive(Clone, Copy, Drop)]
 pub enum CauseOf {
     /// The session's fault.
     Fault,
@@ -46,7 +46,7 @@ pub enum CauseOf {
 }
 
 /// What a fault or a refused recovery may come from.
-#[derive(Clone, Copy, Debug, Drop)]
+#[derive(Clone, Copy, Drop)]
 pub struct Cause<'r> {
     /// The name of the cause, for scripts: lower-case words joined by `-`.
     pub id: &'r str,

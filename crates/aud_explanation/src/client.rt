@@ -1,7 +1,7 @@
 //! The client of a session, and what it received.
 
 /// The client that had a session.
-#[derive(Clone, Copy, Debug, Drop)]
+#[derive(Clone, Copy, Drop)]
 pub struct Client<'r> {
     /// The name of its tap.
     pub tap: &'r str,
@@ -12,7 +12,7 @@ pub struct Client<'r> {
 }
 
 /// What a client received of a session against what was due to it.
-#[derive(Clone, Copy, Debug, Drop)]
+#[derive(Clone, Copy, Drop)]
 pub struct Account {
     /// How many events it received.
     pub got: u64,

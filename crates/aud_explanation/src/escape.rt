@@ -1,6 +1,6 @@
 //! Texts as they are printed.
 ghost use Rattle.std.specs.Prelude.{◌≡◌, ◌++◌, ◌<◌, IfOk, OnOk, string_bytes};
-ghost use Rattle.aud_explanation.specs.Printed.{PrintedApart, code_escape, hex, hex_16, hex_24, hex_code, is_hidden, json_escape, json_pair, json_printed, json_shown, json_unit, printed, shown};
+ghost use Rattle.aud_explanation.specs.Printed.{PrintedApart, hex, hex_16, hex_code, is_hidden, json_escape, json_printed, json_shown, json_unit, printed, shown};
 
 use std::alloc::{AllocError, Global};
 
@@ -47,35 +47,16 @@ fn push_hex_16(out: &mut String, number: u32) -> Result<(), AllocError>
     push_hex(out, number % 256)
 }
 
-/// Puts a number of 24 bits at the end in six.
-fn push_hex_24(out: &mut String, number: u32) -> Result<(), AllocError>
-    requires { number < 16777216 }
-    ensures { OnOk result (string_bytes out.new ≡ string_bytes out.old ++ hex_24 number) }
-{
-    push_hex(out, number / 65536)?;
-    push_hex_16(out, number % 65536)
-}
-
 /// Puts the code of a character at the end in four hexadecimal digits, or six from U+10000 on.
 fn push_hex_code(out: &mut String, code: u32) -> Result<(), AllocError>
     requires { code < 1114112 }
     ensures { OnOk result (string_bytes out.new ≡ string_bytes out.old ++ hex_code code) }
 {
     if code < 65536 {
-        push_hex_16(out, code)
-    } else {
-        push_hex_24(out, code)
+        return push_hex_16(out, code);
     }
-}
-
-/// Puts the escape of a hidden character at the end.
-fn push_code(out: &mut String, code: u32) -> Result<(), AllocError>
-    requires { code < 1114112 }
-    ensures { OnOk result (string_bytes out.new ≡ string_bytes out.old ++ code_escape code) }
-{
-    out.push_str("\\u{")?;
-    push_hex_code(out, code)?;
-    out.push_str("}")
+    push_hex(out, code / 65536)?;
+    push_hex_16(out, code % 65536)
 }
 
 /// Puts the character at the end as it is printed.
@@ -88,7 +69,9 @@ pub(crate) fn push_shown(out: &mut String, c: char) -> Result<(), AllocError>
     } else if c.is_control() {
         write!(out, "\\x{code:02x}")
     } else if is_hidden(c) {
-        push_code(out, code)
+        out.push_str("\\u{")?;
+        push_hex_code(out, code)?;
+        out.push_str("}")
     } else {
         out.push(c)
     }
@@ -125,26 +108,18 @@ fn push_json_unit(out: &mut String, unit: u32) -> Result<(), AllocError>
     push_hex_16(out, unit)
 }
 
-/// Puts both halves of the character so far past U+10000 at the end.
+/// Puts a character of a JSON string at the end by its code, from U+10000 on both its halves.
 #[tactic(auto, unfolding(crate::specs::Printed::json_pair))]
-fn push_json_pair(out: &mut String, past: u32) -> Result<(), AllocError>
-    requires { past < 1048576 }
-    ensures { OnOk result (string_bytes out.new ≡ string_bytes out.old ++ json_pair past) }
-{
-    push_json_unit(out, 0xd800 + past / 1024)?;
-    push_json_unit(out, 0xdc00 + past % 1024)
-}
-
-/// Puts a character of a JSON string at the end by its code.
 fn push_json_escape(out: &mut String, code: u32) -> Result<(), AllocError>
     requires { code < 1114112 }
     ensures { OnOk result (string_bytes out.new ≡ string_bytes out.old ++ json_escape code) }
 {
     if code < 65536 {
-        push_json_unit(out, code)
-    } else {
-        push_json_pair(out, code - 65536)
+        return push_json_unit(out, code);
     }
+    let past = code - 65536;
+    push_json_unit(out, 0xd800 + past / 1024)?;
+    push_json_unit(out, 0xdc00 + past % 1024)
 }
 
 /// Puts a character of JSON at the end as it is printed.

@@ -1,7 +1,7 @@
 //! What happens to a client.
 
 /// Something that happens to a client, over one line of the input or several.
-#[derive(Clone, Copy, Debug, Drop)]
+#[derive(Clone, Copy, Drop)]
 pub struct ClientEvent {
     /// The first line, and the last; lines count from 1.
     pub first: u64,
@@ -10,7 +10,7 @@ pub struct ClientEvent {
 }
 
 /// What happens to a client.
-#[derive(Clone, Copy, Debug, PartialEq, Eq, Drop)]
+#[derive(Clone, Copy, Debug, PartialEq, Drop)]
 pub enum Happens {
     /// It asks for its session, to go on after the entry at this position; none where it says no known offset.
     Asks { after: Option<u64> },

@@ -1,10 +1,9 @@
 //! The JSON of an explanation.
 ghost use Rattle.std.specs.Prelude.{◌≡◌, IfOk, OnOk, string_bytes};
 ghost use Rattle.serde_json.specs.View.{view, members_view};
-ghost use Rattle.aud_explanation.specs.Json.{head_members, shown_members, told_members, explanation_data, explanation_json};
+ghost use Rattle.aud_explanation.specs.Json.{explanation_data, explanation_json, head_members, shown_members, told_members, with_causes, with_events, with_refuted};
 
 mod account;
-mod alike;
 mod also;
 mod cause;
 mod event;
@@ -15,19 +14,17 @@ mod turn;
 pub(crate) mod value;
 mod verdict;
 
+use crate::cause::Cause;
 use crate::escape::push_json_printed;
+use crate::event::ClientEvent;
 use crate::explanation::{Explanation, class_of_explained};
 use crate::json_line::account::{put_account, put_client};
-use crate::json_line::alike::put_alike;
 use crate::json_line::also::put_also;
-use crate::json_line::cause::put_causes;
-use crate::json_line::event::put_events;
-use crate::json_line::refused::put_refused;
 use crate::json_line::row::put_evidence;
-use crate::json_line::turn::put_turns;
+use crate::json_line::value::{put_shown, texts};
 use crate::json_line::verdict::put_verdict;
 use aud_input::InputFile;
-use serde_json::{Map, Value};
+use serde_json::{Map, Value, put};
 use std::alloc::{AllocError, Global};
 
 /// Puts the verdict, the client, and what it received.
@@ -45,8 +42,8 @@ fn put_head(
     put_account(alloc, members, explanation.verdict, explanation.account)
 }
 
-/// Puts the turns, the evidence, and the other entries.
-fn put_shown(
+/// Puts the turns, the evidence, and the other entries and sessions.
+fn put_found(
     alloc: Global,
     members: &mut Map<String, Value>,
     files: &[InputFile],
@@ -55,12 +52,62 @@ fn put_shown(
     ensures { OnOk result (members_view members.new.entries
         ≡ shown_members files.now explanation.now (members_view members.old.entries)) }
 {
-    put_turns(alloc, members, explanation.turns)?;
-    put_evidence(alloc, members, files, explanation.pid, explanation.evidence)?;
-    put_also(alloc, members, explanation.also, explanation.also_left)
+    let pid = explanation.pid;
+    let names = ("turns", "turns_left");
+    put_shown(alloc, members, files, pid, names, explanation.turns)?;
+    put_evidence(alloc, members, files, pid, explanation.evidence)?;
+    put_also(
+        alloc,
+        members,
+        explanation.also,
+        explanation.also_left,
+        explanation.alike,
+    )
 }
 
-/// Puts the refused recoveries, what happened to the client, and the causes.
+/// Puts what happened to the client.
+#[tactic(auto, unfolding(crate::specs::Json::with_events))]
+fn put_events(
+    alloc: Global,
+    members: &mut Map<String, Value>,
+    events: &[ClientEvent],
+) -> Result<(), AllocError>
+    ensures { OnOk result (members_view members.new.entries
+        ≡ with_events events.now (members_view members.old.entries)) }
+{
+    let names = ("events", "events_left");
+    put_shown(alloc, members, &[], "", names, events)
+}
+
+/// Puts the causes.
+#[tactic(auto, unfolding(crate::specs::Json::with_causes))]
+fn put_causes(
+    alloc: Global,
+    members: &mut Map<String, Value>,
+    causes: &[Cause<'_>],
+) -> Result<(), AllocError>
+    ensures { OnOk result (members_view members.new.entries
+        ≡ with_causes causes.now (members_view members.old.entries)) }
+{
+    let names = ("causes", "causes_left");
+    put_shown(alloc, members, &[], "", names, causes)
+}
+
+/// Puts the names of the causes that were refuted.
+#[tactic(auto, unfolding(crate::specs::Json::with_refuted))]
+fn put_refuted(
+    alloc: Global,
+    members: &mut Map<String, Value>,
+    refuted: &[&'static str],
+) -> Result<(), AllocError>
+    ensures { OnOk result (members_view members.new.entries
+        ≡ with_refuted refuted.now (members_view members.old.entries)) }
+{
+    let values = texts(alloc, refuted)?;
+    put(members, alloc, "refuted", Value::Array(values))
+}
+
+/// Puts the refused recoveries, what happened to the client, the causes, and the names of those that were refuted.
 fn put_told(
     alloc: Global,
     members: &mut Map<String, Value>,
@@ -70,9 +117,12 @@ fn put_told(
     ensures { OnOk result (members_view members.new.entries
         ≡ told_members files.now explanation.now (members_view members.old.entries)) }
 {
-    put_refused(alloc, members, files, explanation.pid, explanation.refused)?;
+    let pid = explanation.pid;
+    let names = ("refused", "refused_left");
+    put_shown(alloc, members, files, pid, names, explanation.refused)?;
     put_events(alloc, members, explanation.events)?;
-    put_causes(alloc, members, explanation.causes, explanation.refuted)
+    put_causes(alloc, members, explanation.causes)?;
+    put_refuted(alloc, members, explanation.refuted)
 }
 
 fn explanation_value(
@@ -84,8 +134,7 @@ fn explanation_value(
 {
     let mut members = Map::new(alloc);
     put_head(alloc, &mut members, explanation)?;
-    put_shown(alloc, &mut members, files, explanation)?;
-    put_alike(alloc, &mut members, explanation.alike)?;
+    put_found(alloc, &mut members, files, explanation)?;
     put_told(alloc, &mut members, files, explanation)?;
     Ok(Value::Object(members))
 }

@@ -38,7 +38,6 @@ mod client;
 mod escape;
 mod event;
 mod explanation;
-mod fault;
 mod json_line;
 mod long;
 mod long_rows;

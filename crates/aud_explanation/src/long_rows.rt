@@ -1,6 +1,6 @@
 //! The rows of long evidence.
 ghost use Rattle.std.specs.Prelude.{◌≡◌, IfOk, find};
-ghost use Rattle.aud_explanation.specs.LongRows.{is_earlier_row, is_fault_row, kept_rows, rows_between, rows_left, rows_shown};
+ghost use Rattle.aud_explanation.specs.LongRows.{is_earlier_row, is_fault_row, kept_rows, rows_left, rows_shown};
 
 use crate::long::{first_shown, front, last_shown, left_out, past};
 use aud_rows::{Role, Row};
@@ -30,20 +30,12 @@ fn first_earlier<'r>(rows: &[Row<'r>]) -> Option<Row<'r>>
     None
 }
 
-/// Those between the first 100 and the last 100; none of at most 200.
-#[tactic(auto, unfolding(crate::specs::LongRows::rows_between))]
-fn rows_between<'s, 'r>(rows: &'s [Row<'r>]) -> &'s [Row<'r>]
-    ensures { result.now ≡ rows_between rows.now }
-{
-    front(past(rows, 100), left_out(rows))
-}
-
-/// Those of the rows between that are shown all the same: two at most.
-#[tactic(auto, unfolding(crate::specs::LongRows::kept_rows))]
+/// Those of the rows between the first 100 and the last 100 that are shown all the same: two at most.
+#[tactic(auto, unfolding(crate::specs::LongRows::kept_rows, crate::specs::LongRows::rows_between))]
 pub(crate) fn kept_rows<'r>(alloc: Global, rows: &[Row<'r>]) -> Result<Vec<Row<'r>>, AllocError>
     ensures { IfOk result (λ kept. kept.items ≡ kept_rows rows.now) }
 {
-    let between = rows_between(rows);
+    let between = front(past(rows, 100), left_out(rows));
     let mut kept = Vec::new(alloc);
     if let Some(row) = first_earlier(between) {
         kept.push(row)?;

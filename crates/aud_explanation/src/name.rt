@@ -1,25 +1,19 @@
 //! Names that others chose, as they stand in a line.
-ghost use Rattle.std.specs.Prelude.{◌≡◌, ◌++◌, IfOk, OnOk, chars, flat_map, string_bytes};
-ghost use Rattle.std.specs.List.{list_all};
-ghost use Rattle.aud_explanation.specs.Named.{NamesApart, cut_name, in_quotes, is_of_plain, is_plain_name, is_sign, name_of, name_words, quoted, short_of, whole_name, whole_of};
+ghost use Rattle.std.specs.Prelude.{◌≡◌, ◌++◌, IfOk, OnOk, chars, string_bytes};
+ghost use Rattle.std.specs.Option.{option_copied};
+ghost use Rattle.aud_explanation.specs.Named.{NamesApart, cut_name, in_quotes, is_of_plain, is_plain_name, name_words, named_words, quoted, short_of, whole_name, whole_of};
 
 use crate::escape::is_hidden;
 use crate::long::{first_shown, last_shown, left_out};
 use std::alloc::{AllocError, Global};
 
 /// How much of a long name stands in a line.
-#[derive(Clone, Copy, Debug, PartialEq, Eq, Drop)]
+#[derive(Clone, Copy, Drop)]
 pub enum Names {
     /// All of it.
     Whole,
     /// Of more than 200 characters the first 100 and the last 100, and how many are left out.
     Short,
-}
-
-fn is_sign(c: char) -> bool
-    ensures { result ≡ is_sign c }
-{
-    matches!(c, '"' | ',' | '\\')
 }
 
 /// Whether the character may stand in a name without quotes.
@@ -32,18 +26,7 @@ fn is_of_plain(c: char) -> bool
     if is_hidden(c) {
         return false;
     }
-    !is_sign(c)
-}
-
-fn are_plain(characters: &[char]) -> bool
-    ensures { result ≡ list_all is_of_plain characters.now }
-{
-    for c in characters {
-        if !is_of_plain(*c) {
-            return false;
-        }
-    }
-    true
+    !matches!(c, '"' | ',' | '\\')
 }
 
 /// Whether a name of these characters stands without quotes.
@@ -53,7 +36,12 @@ fn is_plain_name(characters: &[char]) -> bool
     if characters.is_empty() {
         return false;
     }
-    are_plain(characters)
+    for c in characters {
+        if !is_of_plain(*c) {
+            return false;
+        }
+    }
+    true
 }
 
 /// Puts a character between quotes at the end.
@@ -67,23 +55,14 @@ fn push_in_quotes(out: &mut String, c: char) -> Result<(), AllocError>
     }
 }
 
-fn push_each(out: &mut String, characters: &[char]) -> Result<(), AllocError>
-    ensures { OnOk result (string_bytes out.new
-        ≡ string_bytes out.old ++ flat_map in_quotes characters.now) }
-{
-    for c in characters {
-        let c = *c;
-        push_in_quotes(out, c)?;
-    }
-    Ok(())
-}
-
 /// Puts the characters at the end between quotes.
 fn push_quoted(out: &mut String, characters: &[char]) -> Result<(), AllocError>
     ensures { OnOk result (string_bytes out.new ≡ string_bytes out.old ++ quoted characters.now) }
 {
     out.push_str("\"")?;
-    push_each(out, characters)?;
+    for c in characters {
+        push_in_quotes(out, *c)?;
+    }
     out.push_str("\"")
 }
 
@@ -121,21 +100,6 @@ fn push_short(out: &mut String, name: &str, characters: &[char]) -> Result<(), A
     }
 }
 
-fn push_of(
-    out: &mut String,
-    names: Names,
-    name: &str,
-    characters: &[char],
-) -> Result<(), AllocError>
-    ensures { OnOk result (string_bytes out.new
-        ≡ string_bytes out.old ++ name_of names name.now characters.now) }
-{
-    match names {
-        Names::Whole => push_whole(out, name, characters),
-        Names::Short => push_short(out, name, characters),
-    }
-}
-
 fn chars_of(alloc: Global, name: &str) -> Result<Vec<char>, AllocError>
     ensures { IfOk result (λ cs. cs.items ≡ chars name.now) }
 {
@@ -154,18 +118,44 @@ pub(crate) fn push_name(
     ensures { OnOk result (string_bytes out.new ≡ string_bytes out.old ++ name_words names name.now) }
 {
     let characters = chars_of(alloc, name)?;
-    push_of(out, names, name, characters.as_slice())
+    let characters = characters.as_slice();
+    match names {
+        Names::Whole => push_whole(out, name, characters),
+        Names::Short => push_short(out, name, characters),
+    }
+}
+
+/// Puts the words and the name at the end; where there is no name, the words in their place.
+#[tactic(auto, unfolding(crate::specs::Named::named_words))]
+pub(crate) fn push_named(
+    alloc: Global,
+    out: &mut String,
+    names: Names,
+    words: &str,
+    name: Option<&str>,
+    none: &str,
+) -> Result<(), AllocError>
+    ensures { OnOk result (string_bytes out.new
+        ≡ string_bytes out.old ++ named_words names words.now (option_copied name.entry) none.now) }
+{
+    match name {
+        Some(name) => {
+            out.push_str(words)?;
+            push_name(alloc, out, names, name)
+        }
+        None => out.push_str(none),
+    }
 }
 
 /// A name as it stands in a line: as it is where it has no white space, no `"`, `,` and `\`, no character that is printed
 /// as an escape, and isn't empty; else between quotes, in which a quote stands twice. It is still to be
 /// [`printed`](crate::printed). No two names are printed alike, which is the law [`names_apart`].
+#[tactic(auto, unfolding(crate::specs::Named::name_words))]
 pub fn named(alloc: Global, name: &str) -> Result<String, AllocError>
     ensures { IfOk result (λ out. string_bytes out ≡ whole_name name.now) }
 {
     let mut out = String::new(alloc);
-    let characters = chars_of(alloc, name)?;
-    push_whole(&mut out, name, characters.as_slice())?;
+    push_name(alloc, &mut out, Names::Whole, name)?;
     Ok(out)
 }
 

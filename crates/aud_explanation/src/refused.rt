@@ -3,7 +3,7 @@ use aud_rows::Row;
 
 /// A recovery of the session that a client asked for and did not get. What it missed is borrowed for `'l`, names for
 /// `'r`.
-#[derive(Clone, Copy, Debug, Drop)]
+#[derive(Clone, Copy, Drop)]
 pub struct RefusedRecovery<'l, 'r> {
     /// The record in which it asks.
     pub ask: Row<'r>,
@@ -20,7 +20,7 @@ pub struct RefusedRecovery<'l, 'r> {
 }
 
 /// An entry that a client missed.
-#[derive(Clone, Copy, Debug, Drop)]
+#[derive(Clone, Copy, Drop)]
 pub struct Missed<'r> {
     /// Positions count from 1.
     pub position: u64,

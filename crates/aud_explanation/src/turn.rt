@@ -1,7 +1,7 @@
 //! The turns of a session.
 
 /// A session's turn on a node, as a timeline shows it.
-#[derive(Clone, Copy, Debug, Drop)]
+#[derive(Clone, Copy, Drop)]
 pub struct TurnShown<'r> {
     /// Turns count from 0.
     pub turn: u16,
@@ -20,14 +20,14 @@ pub struct TurnShown<'r> {
 }
 
 /// By which record a turn begins.
-#[derive(Clone, Copy, Debug, PartialEq, Eq, Drop)]
+#[derive(Clone, Copy, Drop)]
 pub enum TurnBegin {
     Open,
     Back,
 }
 
 /// How a turn ends, on which line, and with which cursor of the node. Lines count from 1.
-#[derive(Clone, Copy, Debug, PartialEq, Eq, Drop)]
+#[derive(Clone, Copy, Drop)]
 pub enum TurnEnd {
     Break { line: u64, high: u64 },
     Gone { line: u64, high: u64 },

@@ -1,18 +1,14 @@
 //! A record as a line of the bundle has it, where it is asked for by its number.
 ghost use Rattle.std.specs.Prelude.{◌≡◌, ◌++◌, false, IfOk, OnOk, string_bytes};
-ghost use Rattle.std.specs.Option.{option_and_then};
-ghost use Rattle.serde_json.specs.Data.{no_members};
-ghost use Rattle.serde_json.specs.View.{members_view, view};
+ghost use Rattle.serde_json.specs.View.{view};
 ghost use Rattle.serde_json.specs.Written.{has_float};
-ghost use Rattle.aud_input.specs.InputFiles.{place_told};
-ghost use Rattle.aud_explanation.specs.Place.{with_place};
 ghost use Rattle.aud_explanation.specs.WholeRecord.{head_words, line_words, whole_record_data, whole_record_json, whole_record_text};
 
 use crate::escape::{push_json_printed, push_printed};
 use crate::json_line::place::put_place;
 use crate::json_line::value::number_or_null;
 use crate::text::push_place;
-use aud_input::InputFile;
+use aud_input::{InputFile, place_told};
 use serde_json::{Map, Value, put};
 use std::alloc::{AllocError, Global};
 
@@ -76,23 +72,6 @@ pub fn whole_record_text(
     Ok(out)
 }
 
-/// Puts where the line stands among several files, where it is known.
-fn put_place_of(
-    alloc: Global,
-    members: &mut Map<String, Value>,
-    files: &[InputFile],
-    line: Option<u64>,
-) -> Result<(), AllocError>
-    ensures { OnOk result (members_view members.new.entries
-        ≡ with_place (option_and_then (place_told files.now) line)
-        (members_view members.old.entries)) }
-{
-    match line {
-        Some(line) => put_place(alloc, members, files, line),
-        None => put_place(alloc, members, &[], 0),
-    }
-}
-
 #[tactic(auto, unfolding(crate::specs::WholeRecord::whole_record_data))]
 fn whole_record_value(
     alloc: Global,
@@ -105,8 +84,12 @@ fn whole_record_value(
     ensures { IfOk result (λ value. view value
         ≡ whole_record_data files.now tap.now number line (view json)) }
 {
+    let place = match line {
+        Some(line) => place_told(files, line),
+        None => None,
+    };
     let mut members = Map::new(alloc);
-    put_place_of(alloc, &mut members, files, line)?;
+    put_place(alloc, &mut members, place)?;
     put(&mut members, alloc, "line", number_or_null(line))?;
     put(&mut members, alloc, "number", Value::from(number))?;
     put(&mut members, alloc, "record", json)?;

@@ -1,38 +1,14 @@
 //! The members of the client, and of what it received.
 ghost use Rattle.std.specs.Prelude.{◌≡◌, OnOk};
 ghost use Rattle.serde_json.specs.View.{members_view};
-ghost use Rattle.aud_explanation.specs.JsonAccount.{with_names, with_client, with_counts, with_account};
+ghost use Rattle.aud_explanation.specs.JsonAccount.{with_account, with_client};
 
 use crate::client::{Account, Client};
-use crate::json_line::value::number_or_null;
+use crate::json_line::value::{number_or_null, put_numbers, put_texts};
 use crate::tail::shown_tail;
 use aud_verdict::Verdict;
 use serde_json::{Map, Value, put};
 use std::alloc::{AllocError, Global};
-
-#[tactic(auto, unfolding(crate::specs::JsonAccount::with_names))]
-fn put_names(
-    alloc: Global,
-    members: &mut Map<String, Value>,
-    client: &Client<'_>,
-) -> Result<(), AllocError>
-    ensures { OnOk result (members_view members.new.entries
-        ≡ with_names client.now (members_view members.old.entries)) }
-{
-    put(
-        members,
-        alloc,
-        "client",
-        Value::try_from_str(alloc, client.tap)?,
-    )?;
-    put(
-        members,
-        alloc,
-        "nsp",
-        Value::try_from_str(alloc, client.nsp)?,
-    )?;
-    put(members, alloc, "conn", number_or_null(client.conn))
-}
 
 /// Puts the tap, the namespace and the connection of the client.
 #[tactic(auto, unfolding(crate::specs::JsonAccount::with_client))]
@@ -44,31 +20,12 @@ pub(crate) fn put_client(
     ensures { OnOk result (members_view members.new.entries
         ≡ with_client client.entry (members_view members.old.entries)) }
 {
-    match client {
-        Some(client) => put_names(alloc, members, &client),
-        None => {
-            put(members, alloc, "client", Value::Null)?;
-            put(members, alloc, "nsp", Value::Null)?;
-            put(members, alloc, "conn", Value::Null)
-        }
-    }
-}
-
-#[tactic(auto, unfolding(crate::specs::JsonAccount::with_counts))]
-fn put_counts(
-    alloc: Global,
-    members: &mut Map<String, Value>,
-    verdict: &Verdict,
-    account: &Account,
-) -> Result<(), AllocError>
-    ensures { OnOk result (members_view members.new.entries
-        ≡ with_counts verdict.now account.now (members_view members.old.entries)) }
-{
-    put(members, alloc, "got", Value::from(account.got))?;
-    put(members, alloc, "due", Value::from(account.due))?;
-    let tail = shown_tail(verdict, account.tail);
-    put(members, alloc, "tail", number_or_null(tail))?;
-    put(members, alloc, "at_frame", number_or_null(account.at_frame))
+    let (tap, nsp, conn) = match client {
+        Some(client) => (Some(client.tap), Some(client.nsp), client.conn),
+        None => (None, None, None),
+    };
+    put_texts(alloc, members, &[("client", tap), ("nsp", nsp)])?;
+    put(members, alloc, "conn", number_or_null(conn))
 }
 
 /// Puts what was received of what was due; the tail is `null` where it isn't shown.
@@ -82,13 +39,20 @@ pub(crate) fn put_account(
     ensures { OnOk result (members_view members.new.entries
         ≡ with_account verdict.now account (members_view members.old.entries)) }
 {
-    match account {
-        Some(account) => put_counts(alloc, members, verdict, &account),
-        None => {
-            put(members, alloc, "got", Value::Null)?;
-            put(members, alloc, "due", Value::Null)?;
-            put(members, alloc, "tail", Value::Null)?;
-            put(members, alloc, "at_frame", Value::Null)
-        }
-    }
+    let (got, due, tail, at_frame) = match account {
+        Some(account) => (
+            Some(account.got),
+            Some(account.due),
+            shown_tail(verdict, account.tail),
+            account.at_frame,
+        ),
+        None => (None, None, None, None),
+    };
+    let numbers = [
+        ("got", got),
+        ("due", due),
+        ("tail", tail),
+        ("at_frame", at_frame),
+    ];
+    put_numbers(alloc, members, &numbers)
 }

@@ -1,35 +1,33 @@
-//! The member of the refused recoveries.
-ghost use Rattle.std.specs.Prelude.{◌≡◌, IfOk, OnOk};
+//! A refused recovery as an object.
+ghost use Rattle.std.specs.Prelude.{◌≡◌, IfOk};
 ghost use Rattle.std.specs.Option.{option_copied};
-ghost use Rattle.serde_json.specs.View.{view, items_view, members_view};
+ghost use Rattle.serde_json.specs.View.{view, items_view};
 ghost use Rattle.aud_cert.specs.Text.{items};
-ghost use Rattle.aud_explanation.specs.JsonValue.{text_or_null};
-ghost use Rattle.aud_explanation.specs.JsonRefused.{missed_data, all_missed_data, missed_left_data, reply_data, refused_data, with_refused};
+ghost use Rattle.aud_explanation.specs.JsonRefused.{all_missed_data, missed_data, missed_left_data, reply_data};
 
-use crate::json_line::row::row_value;
-use crate::json_line::value::{text_or_null, texts};
+use crate::json_line::value::{Told, text_or_null, texts, values};
 use crate::long::{all_shown, left_out};
 use crate::refused::{Missed, RefusedRecovery};
 use aud_input::InputFile;
 use aud_rows::Row;
-use serde_json::{Map, Value, json, put};
+use serde_json::{Value, json};
 use std::alloc::{AllocError, Global};
 
 /// `{"off":..,"position":..}`.
-fn missed_value(alloc: Global, missed: &Missed<'_>) -> Result<Value, AllocError>
-    ensures { IfOk result (λ v. view v ≡ missed_data missed.now) }
-{
-    json!(in alloc; {"off": missed.off, "position": missed.position})
+impl<'r> Told for Missed<'r> {
+    ghost use Rattle.aud_explanation.specs.JsonRefused.{missed_data};
+
+    ghost data_of = { λ files pid missed. missed_data missed };
+
+    fn value(&self, alloc: Global, _files: &[InputFile], _pid: &str) -> Result<Value, AllocError> {
+        json!(in alloc; {"off": self.off, "position": self.position})
+    }
 }
 
 fn missed_values(alloc: Global, entries: &[Missed<'_>]) -> Result<Vec<Value>, AllocError>
     ensures { IfOk result (λ vs. items_view vs.items ≡ items missed_data entries.now) }
 {
-    let mut values = Vec::new(alloc);
-    for missed in entries {
-        values.push(missed_value(alloc, missed)?)?;
-    }
-    Ok(values)
+    values(alloc, &[], "", entries)
 }
 
 /// What was missed, as far as it is shown, or `null`.
@@ -65,61 +63,25 @@ fn reply_value(
     ensures { IfOk result (λ v. view v ≡ reply_data files.now pid.now reply.entry) }
 {
     match reply {
-        Some(reply) => row_value(alloc, files, pid, &reply),
+        Some(reply) => reply.value(alloc, files, pid),
         None => Ok(Value::Null),
     }
 }
 
 /// `{"ask":..,"has_cause":..,"instead":..,"missed":..,"missed_left":..,"refuted":[..],"reply":..}`.
-fn refused_value(
-    alloc: Global,
-    files: &[InputFile],
-    pid: &str,
-    refused: &RefusedRecovery<'_, '_>,
-) -> Result<Value, AllocError>
-    ensures { IfOk result (λ v. view v ≡ refused_data files.now pid.now refused.now) }
-{
-    let ask = row_value(alloc, files, pid, &refused.ask)?;
-    let has_cause = refused.has_cause;
-    let instead = text_or_null(alloc, refused.instead)?;
-    let missed = all_missed_value(alloc, refused.missed)?;
-    let missed_left = missed_left_value(refused.missed);
-    let refuted = Value::Array(texts(alloc, refused.refuted)?);
-    let reply = reply_value(alloc, files, pid, refused.reply)?;
-    json!(in alloc; {"ask": ask, "has_cause": has_cause, "instead": instead, "missed": missed, "missed_left": missed_left, "refuted": refuted, "reply": reply})
-}
+impl<'l, 'r> Told for RefusedRecovery<'l, 'r> {
+    ghost use Rattle.aud_explanation.specs.JsonRefused.{refused_data};
 
-fn refused_values(
-    alloc: Global,
-    files: &[InputFile],
-    pid: &str,
-    recoveries: &[RefusedRecovery<'_, '_>],
-) -> Result<Vec<Value>, AllocError>
-    ensures { IfOk result (λ vs. items_view vs.items
-        ≡ items (refused_data files.now pid.now) recoveries.now) }
-{
-    let mut values = Vec::new(alloc);
-    for refused in recoveries {
-        values.push(refused_value(alloc, files, pid, refused)?)?;
+    ghost data_of = { refused_data };
+
+    fn value(&self, alloc: Global, files: &[InputFile], pid: &str) -> Result<Value, AllocError> {
+        let ask = self.ask.value(alloc, files, pid)?;
+        let has_cause = self.has_cause;
+        let instead = text_or_null(alloc, self.instead)?;
+        let missed = all_missed_value(alloc, self.missed)?;
+        let missed_left = missed_left_value(self.missed);
+        let refuted = Value::Array(texts(alloc, self.refuted)?);
+        let reply = reply_value(alloc, files, pid, self.reply)?;
+        json!(in alloc; {"ask": ask, "has_cause": has_cause, "instead": instead, "missed": missed, "missed_left": missed_left, "refuted": refuted, "reply": reply})
     }
-    Ok(values)
-}
-
-/// Puts the refused recoveries of the session with this pid, as far as they are shown, and how many are left out.
-#[tactic(auto, unfolding(crate::specs::JsonRefused::with_refused))]
-pub(crate) fn put_refused(
-    alloc: Global,
-    members: &mut Map<String, Value>,
-    files: &[InputFile],
-    pid: &str,
-    recoveries: &[RefusedRecovery<'_, '_>],
-) -> Result<(), AllocError>
-    ensures { OnOk result (members_view members.new.entries
-        ≡ with_refused files.now pid.now recoveries.now (members_view members.old.entries)) }
-{
-    let shown = all_shown(alloc, recoveries)?;
-    let values = refused_values(alloc, files, pid, shown.as_slice())?;
-    put(members, alloc, "refused", Value::Array(values))?;
-    let left = left_out(recoveries) as u64;
-    put(members, alloc, "refused_left", Value::from(left))
 }

@@ -1,33 +1,23 @@
-//! The member of the turns.
-ghost use Rattle.std.specs.Prelude.{◌≡◌, IfOk, OnOk};
-ghost use Rattle.serde_json.specs.Data.{no_members};
-ghost use Rattle.serde_json.specs.View.{view, items_view, members_view};
-ghost use Rattle.aud_cert.specs.Text.{items};
-ghost use Rattle.aud_explanation.specs.JsonTurn.{begin_word, end_word, high_at, lines_data, took_data, turn_data, turn_ends, with_turns};
+//! A turn as an object.
+ghost use Rattle.std.specs.Prelude.{◌≡◌, IfOk};
+ghost use Rattle.serde_json.specs.View.{view};
+ghost use Rattle.aud_explanation.specs.JsonTurn.{end_word, high_at, lines_data, took_data};
 
-use crate::json_line::value::{number_or_null, numbers};
-use crate::long::{all_shown, left_out};
+use crate::json_line::value::{Told, numbers, put_numbers, put_texts};
 use crate::turn::{TurnBegin, TurnEnd, TurnShown};
+use aud_input::InputFile;
 use serde_json::{Map, Value, put};
 use std::alloc::{AllocError, Global};
 
-fn begin_word(begin: TurnBegin) -> &'static str
-    ensures { result.now ≡ begin_word begin }
-{
-    match begin {
-        TurnBegin::Open => "open",
-        TurnBegin::Back => "back",
-    }
-}
-
-fn end_word(end: TurnEnd) -> &'static str
-    ensures { result.now ≡ end_word end }
+/// How a turn ends, in a word, and the node's cursor there.
+fn word_and_high(end: TurnEnd) -> (&'static str, Option<u64>)
+    ensures { (result.0.now ≡ end_word end) × (result.1 ≡ high_at end) }
 {
     match end {
-        TurnEnd::Break { .. } => "break",
-        TurnEnd::Gone { .. } => "gone",
-        TurnEnd::Log { .. } => "log",
-        TurnEnd::Missing => "missing",
+        TurnEnd::Break { high, .. } => ("break", Some(high)),
+        TurnEnd::Gone { high, .. } => ("gone", Some(high)),
+        TurnEnd::Log { high, .. } => ("log", Some(high)),
+        TurnEnd::Missing => ("missing", None),
     }
 }
 
@@ -44,18 +34,6 @@ fn lines_value(alloc: Global, begin: u64, end: TurnEnd) -> Result<Value, AllocEr
     Ok(Value::Array(values))
 }
 
-/// The node's cursor at the end of a turn.
-fn high_at(end: TurnEnd) -> Option<u64>
-    ensures { result ≡ high_at end }
-{
-    match end {
-        TurnEnd::Break { high, .. } | TurnEnd::Gone { high, .. } | TurnEnd::Log { high, .. } => {
-            Some(high)
-        }
-        TurnEnd::Missing => None,
-    }
-}
-
 /// The first and the last position that a node took in a turn.
 fn took_value(alloc: Global, took: Option<(u64, u64)>) -> Result<Value, AllocError>
     ensures { IfOk result (λ v. view v ≡ took_data took) }
@@ -66,83 +44,36 @@ fn took_value(alloc: Global, took: Option<(u64, u64)>) -> Result<Value, AllocErr
     }
 }
 
-/// The members of how a turn begins and ends.
-fn turn_ends(alloc: Global, turn: &TurnShown<'_>) -> Result<Map<String, Value>, AllocError>
-    ensures { IfOk result (λ map. members_view map.entries ≡ turn_ends turn.now no_members) }
-{
-    let mut members = Map::new(alloc);
-    put(
-        &mut members,
-        alloc,
-        "begin",
-        Value::try_from_str(alloc, begin_word(turn.begin))?,
-    )?;
-    put(
-        &mut members,
-        alloc,
-        "end",
-        Value::try_from_str(alloc, end_word(turn.end))?,
-    )?;
-    put(
-        &mut members,
-        alloc,
-        "high",
-        number_or_null(high_at(turn.end)),
-    )?;
-    put(
-        &mut members,
-        alloc,
-        "lines",
-        lines_value(alloc, turn.begin_line, turn.end)?,
-    )?;
-    Ok(members)
-}
-
 /// `{"begin":..,"end":..,"high":..,"lines":..,"low":..,"node":..,"took":..,"turn":..}`.
-fn turn_value(alloc: Global, turn: &TurnShown<'_>) -> Result<Value, AllocError>
-    ensures { IfOk result (λ v. view v ≡ turn_data turn.now) }
-{
-    let mut members = turn_ends(alloc, turn)?;
-    put(&mut members, alloc, "low", Value::from(turn.low))?;
-    put(
-        &mut members,
-        alloc,
-        "node",
-        Value::try_from_str(alloc, turn.node)?,
-    )?;
-    put(&mut members, alloc, "took", took_value(alloc, turn.took)?)?;
-    put(
-        &mut members,
-        alloc,
-        "turn",
-        Value::from(u64::from(turn.turn)),
-    )?;
-    Ok(Value::Object(members))
-}
+impl<'r> Told for TurnShown<'r> {
+    ghost use Rattle.aud_explanation.specs.JsonTurn.{turn_data};
 
-fn turn_values(alloc: Global, turns: &[TurnShown<'_>]) -> Result<Vec<Value>, AllocError>
-    ensures { IfOk result (λ vs. items_view vs.items ≡ items turn_data turns.now) }
-{
-    let mut values = Vec::new(alloc);
-    for turn in turns {
-        values.push(turn_value(alloc, turn)?)?;
+    ghost data_of = { λ files pid turn. turn_data turn };
+
+    fn value(&self, alloc: Global, _files: &[InputFile], _pid: &str) -> Result<Value, AllocError> {
+        let begin = match self.begin {
+            TurnBegin::Open => "open",
+            TurnBegin::Back => "back",
+        };
+        let (end, high) = word_and_high(self.end);
+        let texts = [
+            ("begin", Some(begin)),
+            ("end", Some(end)),
+            ("node", Some(self.node)),
+        ];
+        let turn = u64::from(self.turn);
+        let numbers = [
+            ("high", high),
+            ("low", Some(self.low)),
+            ("turn", Some(turn)),
+        ];
+        let lines = lines_value(alloc, self.begin_line, self.end)?;
+        let took = took_value(alloc, self.took)?;
+        let mut members = Map::new(alloc);
+        put_texts(alloc, &mut members, &texts)?;
+        put_numbers(alloc, &mut members, &numbers)?;
+        put(&mut members, alloc, "lines", lines)?;
+        put(&mut members, alloc, "took", took)?;
+        Ok(Value::Object(members))
     }
-    Ok(values)
-}
-
-/// Puts the turns, as far as they are shown, and how many are left out.
-#[tactic(auto, unfolding(crate::specs::JsonTurn::with_turns))]
-pub(crate) fn put_turns(
-    alloc: Global,
-    members: &mut Map<String, Value>,
-    turns: &[TurnShown<'_>],
-) -> Result<(), AllocError>
-    ensures { OnOk result (members_view members.new.entries
-        ≡ with_turns turns.now (members_view members.old.entries)) }
-{
-    let shown = all_shown(alloc, turns)?;
-    let values = turn_values(alloc, shown.as_slice())?;
-    put(members, alloc, "turns", Value::Array(values))?;
-    let left = left_out(turns) as u64;
-    put(members, alloc, "turns_left", Value::from(left))
 }

@@ -1,39 +1,26 @@
 //! The members of the verdict.
 ghost use Rattle.std.specs.Prelude.{◌≡◌, IfOk, OnOk};
+ghost use Rattle.std.specs.Option.{option_copied};
 ghost use Rattle.serde_json.specs.View.{view, members_view};
-ghost use Rattle.aud_explanation.specs.JsonVerdict.{verdict_word, fault_data, off_data, class_data, with_fault, with_verdict};
+ghost use Rattle.aud_explanation.specs.JsonVerdict.{class_data, fault_off, with_verdict};
 
-use crate::fault::fault_off;
-use crate::json_line::value::text_or_null;
-use aud_cert::{Class, fault_word};
+use crate::json_line::value::put_texts;
+use aud_cert::{Class, Fault, fault_word};
 use aud_verdict::Verdict;
 use serde_json::{Map, Value, put};
 use std::alloc::{AllocError, Global};
 
-fn verdict_word(verdict: &Verdict) -> &'static str
-    ensures { result.now ≡ verdict_word verdict.now }
+/// The offset of the entry that the fault is of.
+fn fault_off(fault: &Fault) -> Option<&str>
+    ensures { option_copied result ≡ fault_off fault.now }
 {
-    match verdict {
-        Verdict::Yes { .. } => "yes",
-        Verdict::No(_) => "no",
-    }
-}
-
-fn fault_value(alloc: Global, verdict: &Verdict) -> Result<Value, AllocError>
-    ensures { IfOk result (λ v. view v ≡ fault_data verdict.now) }
-{
-    match verdict {
-        Verdict::Yes { .. } => Ok(Value::Null),
-        Verdict::No(fault) => Value::try_from_str(alloc, fault_word(fault)),
-    }
-}
-
-fn off_value(alloc: Global, verdict: &Verdict) -> Result<Value, AllocError>
-    ensures { IfOk result (λ v. view v ≡ off_data verdict.now) }
-{
-    match verdict {
-        Verdict::Yes { .. } => Ok(Value::Null),
-        Verdict::No(fault) => text_or_null(alloc, fault_off(fault)),
+    match fault {
+        Fault::Content(off)
+        | Fault::Extra(off)
+        | Fault::Doubled(off)
+        | Fault::Swapped(off)
+        | Fault::Lost(off) => Some(off.as_str()),
+        _ => None,
     }
 }
 
@@ -46,37 +33,29 @@ fn class_value(alloc: Global, class: Option<Class>) -> Result<Value, AllocError>
     }
 }
 
-/// Puts the fault, the offset of its entry, and its class.
-#[tactic(auto, unfolding(crate::specs::JsonVerdict::with_fault))]
-fn put_fault(
-    alloc: Global,
-    members: &mut Map<String, Value>,
-    verdict: &Verdict,
-    class: Option<Class>,
-) -> Result<(), AllocError>
-    ensures { OnOk result (members_view members.new.entries
-        ≡ with_fault verdict.now class (members_view members.old.entries)) }
-{
-    put(members, alloc, "fault", fault_value(alloc, verdict)?)?;
-    put(members, alloc, "off", off_value(alloc, verdict)?)?;
-    put(members, alloc, "class", class_value(alloc, class)?)
-}
-
-/// Puts the version, the session, and the verdict on it.
+/// Puts the version, the session, the verdict on it, the fault, the offset of its entry, and its class.
 #[tactic(auto, unfolding(crate::specs::JsonVerdict::with_verdict))]
-pub(crate) fn put_verdict(
+pub(crate) fn put_verdict<'v>(
     alloc: Global,
     members: &mut Map<String, Value>,
-    pid: &str,
-    verdict: &Verdict,
+    pid: &'v str,
+    verdict: &'v Verdict,
     class: Option<Class>,
 ) -> Result<(), AllocError>
     ensures { OnOk result (members_view members.new.entries
         ≡ with_verdict pid.now verdict.now class (members_view members.old.entries)) }
 {
+    let (word, fault, off) = match verdict {
+        Verdict::Yes { .. } => ("yes", None, None),
+        Verdict::No(fault) => ("no", Some(fault_word(fault)), fault_off(fault)),
+    };
+    let texts = [
+        ("pid", Some(pid)),
+        ("verdict", Some(word)),
+        ("fault", fault),
+        ("off", off),
+    ];
     put(members, alloc, "v", Value::from(1u64))?;
-    put(members, alloc, "pid", Value::try_from_str(alloc, pid)?)?;
-    let word = verdict_word(verdict);
-    put(members, alloc, "verdict", Value::try_from_str(alloc, word)?)?;
-    put_fault(alloc, members, verdict, class)
+    put_texts(alloc, members, &texts)?;
+    put(members, alloc, "class", class_value(alloc, class)?)
 }

@@ -1,10 +1,10 @@
 //! The other entries with the same fault.
 ghost use Rattle.std.specs.Prelude.{◌≡◌, ◌++◌, OnOk, string_bytes};
-ghost use Rattle.aud_explanation.specs.AlsoText.{also_line, also_text, also_words, entry_words, more_line, more_text, more_words, others_text};
+ghost use Rattle.aud_explanation.specs.AlsoText.{also_text, also_words, entry_words, more_text, more_words, others_text};
 
 use crate::also::Also;
 use crate::text::page::push_line;
-use crate::text::span::{push_lines, push_number, push_span};
+use crate::text::span::{push_lines, push_span};
 use std::alloc::{AllocError, Global};
 
 /// The words that come first, for the entries from one to another.
@@ -28,18 +28,12 @@ fn push_entry(line: &mut String, from: u64, to: u64) -> Result<(), AllocError>
     line.push_str(", ")
 }
 
-fn push_words(line: &mut String, also: &Also<'_>) -> Result<(), AllocError>
-    ensures { OnOk result (string_bytes line.new ≡ string_bytes line.old ++ also_line also.now) }
-{
-    push_entry(line, also.position, also.to)?;
-    push_lines(line, also.lines)
-}
-
 fn push_one(alloc: Global, out: &mut String, also: &Also<'_>) -> Result<(), AllocError>
     ensures { OnOk result (string_bytes out.new ≡ string_bytes out.old ++ also_text also.now) }
 {
     let mut line = String::new(alloc);
-    push_words(&mut line, also)?;
+    push_entry(&mut line, also.position, also.to)?;
+    push_lines(&mut line, also.lines)?;
     push_line(out, line.as_str())
 }
 
@@ -69,14 +63,6 @@ fn more_words(left: u64) -> &'static str
     }
 }
 
-fn push_more_words(line: &mut String, left: u64) -> Result<(), AllocError>
-    ensures { OnOk result (string_bytes line.new ≡ string_bytes line.old ++ more_line left) }
-{
-    line.push_str("    and ")?;
-    push_number(line, left)?;
-    line.push_str(more_words(left))
-}
-
 /// Puts a line at the end that says how many entries more have the fault, if any do.
 pub(crate) fn push_more(alloc: Global, out: &mut String, left: u64) -> Result<(), AllocError>
     ensures { OnOk result (string_bytes out.new ≡ string_bytes out.old ++ more_text left) }
@@ -84,7 +70,7 @@ pub(crate) fn push_more(alloc: Global, out: &mut String, left: u64) -> Result<()
     if left == 0 {
         return Ok(());
     }
-    let mut line = String::new(alloc);
-    push_more_words(&mut line, left)?;
+    let words = more_words(left);
+    let line = format!(in alloc; "    and {left}{words}")?;
     push_line(out, line.as_str())
 }

@@ -1,6 +1,6 @@
 //! The causes.
 ghost use Rattle.std.specs.Prelude.{◌≡◌, ◌++◌, OnOk, string_bytes};
-ghost use Rattle.aud_explanation.specs.CauseText.{cause_line, cause_text, causes_text, each_text, has_own, is_of_fault, is_sole, lines_words, none_holds, none_text, of_words, shown_text, stands_words, todo_line};
+ghost use Rattle.aud_explanation.specs.CauseText.{cause_text, causes_text, each_text, has_own, is_of_fault, is_sole, lines_words, none_holds, none_text, of_words, stands_words};
 
 use crate::cause::{Cause, CauseOf, CauseState};
 use crate::long::{first_shown, last_shown, left_out, push_more};
@@ -41,29 +41,6 @@ fn stands_words(sole: bool, of: CauseOf, state: CauseState) -> &'static str
     }
 }
 
-/// Puts what happened at the end.
-fn push_why(line: &mut String, sole: bool, cause: &Cause<'_>) -> Result<(), AllocError>
-    ensures { OnOk result (string_bytes line.new
-        ≡ string_bytes line.old ++ cause_line sole cause.now) }
-{
-    line.push_str("cause ")?;
-    line.push_str(cause.id)?;
-    line.push_str(" (")?;
-    line.push_str(stands_words(sole, cause.of, cause.state))?;
-    push_where(line, cause.lines)?;
-    push_of(line, cause.of)?;
-    line.push_str("): ")?;
-    line.push_str(cause.why)
-}
-
-/// Puts what to do at the end.
-fn push_todo(line: &mut String, todo: &str) -> Result<(), AllocError>
-    ensures { OnOk result (string_bytes line.new ≡ string_bytes line.old ++ todo_line todo.now) }
-{
-    line.push_str("do: ")?;
-    line.push_str(todo)
-}
-
 /// Puts the lines of a cause at the end: what happened, and what to do.
 fn push_cause(
     alloc: Global,
@@ -74,12 +51,15 @@ fn push_cause(
     ensures { OnOk result (string_bytes out.new
         ≡ string_bytes out.old ++ cause_text sole cause.now) }
 {
-    let mut why = String::new(alloc);
-    push_why(&mut why, sole, cause)?;
-    push_line(out, why.as_str())?;
-    let mut todo = String::new(alloc);
-    push_todo(&mut todo, cause.todo)?;
-    push_line(out, todo.as_str())
+    let (id, why, todo) = (cause.id, cause.why, cause.todo);
+    let stands = stands_words(sole, cause.of, cause.state);
+    let mut line = format!(in alloc; "cause {id} ({stands}")?;
+    push_where(&mut line, cause.lines)?;
+    push_of(&mut line, cause.of)?;
+    write!(&mut line, "): {why}")?;
+    push_line(out, line.as_str())?;
+    let line = format!(in alloc; "do: {todo}")?;
+    push_line(out, line.as_str())
 }
 
 fn is_of_fault(of: CauseOf) -> bool
@@ -100,16 +80,6 @@ fn has_own(causes: &[Cause<'_>]) -> bool
     false
 }
 
-/// Whether causes of the fault are known, of which these were refuted, and none of those that hold is of the fault.
-fn none_holds(refuted: &[&'static str], causes: &[Cause<'_>]) -> bool
-    ensures { result ≡ none_holds refuted.now causes.now }
-{
-    if refuted.is_empty() {
-        return false;
-    }
-    !has_own(causes)
-}
-
 /// Whether one cause of the fault alone is known: none was refuted, and of these, among which those of the fault come
 /// first, one is.
 fn is_sole(refuted: &[&'static str], causes: &[Cause<'_>]) -> bool
@@ -124,15 +94,23 @@ fn is_sole(refuted: &[&'static str], causes: &[Cause<'_>]) -> bool
     }
 }
 
-/// Puts at the end that no known cause holds, where it is so.
-fn push_none(out: &mut String, none: bool) -> Result<(), AllocError>
-    ensures { OnOk result (string_bytes out.new ≡ string_bytes out.old ++ none_text none) }
+/// Puts at the end that no known cause holds, where causes of the fault are known, of which these were refuted, and none
+/// of those that hold is of the fault.
+fn push_none(
+    out: &mut String,
+    refuted: &[&'static str],
+    causes: &[Cause<'_>],
+) -> Result<(), AllocError>
+    ensures { OnOk result (string_bytes out.new
+        ≡ string_bytes out.old ++ none_text (none_holds refuted.now causes.now)) }
 {
-    if none {
-        out.push_str("no known cause of the fault holds\n")
-    } else {
-        Ok(())
+    if refuted.is_empty() {
+        return Ok(());
     }
+    if has_own(causes) {
+        return Ok(());
+    }
+    out.push_str("no known cause of the fault holds\n")
 }
 
 /// Puts these causes at the end.
@@ -151,22 +129,8 @@ fn push_each(
     Ok(())
 }
 
-/// Puts the causes at the end: of more than 200 the first 100 and the last 100.
-fn push_shown(
-    alloc: Global,
-    out: &mut String,
-    sole: bool,
-    causes: &[Cause<'_>],
-) -> Result<(), AllocError>
-    ensures { OnOk result (string_bytes out.new
-        ≡ string_bytes out.old ++ shown_text sole causes.now) }
-{
-    push_each(alloc, out, sole, first_shown(causes))?;
-    push_more(out, left_out(causes))?;
-    push_each(alloc, out, sole, last_shown(causes))
-}
-
-/// Puts the causes at the end, and before them that none of the fault holds, where it is so.
+/// Puts the causes at the end, of more than 200 the first 100 and the last 100, and before them that none of the fault
+/// holds, where it is so.
 pub(crate) fn push_causes(
     alloc: Global,
     out: &mut String,
@@ -176,6 +140,9 @@ pub(crate) fn push_causes(
     ensures { OnOk result (string_bytes out.new
         ≡ string_bytes out.old ++ causes_text refuted.now causes.now) }
 {
-    push_none(out, none_holds(refuted, causes))?;
-    push_shown(alloc, out, is_sole(refuted, causes), causes)
+    push_none(out, refuted, causes)?;
+    let sole = is_sole(refuted, causes);
+    push_each(alloc, out, sole, first_shown(causes))?;
+    push_more(out, left_out(causes))?;
+    push_each(alloc, out, sole, last_shown(causes))
 }

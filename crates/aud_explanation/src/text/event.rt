@@ -1,28 +1,21 @@
 //! The row of what happened to the client.
-ghost use Rattle.std.specs.Prelude.{◌≡◌, ◌++◌, ◌≤◌, IfOk, OnOk, codes, map, string_bytes};
-ghost use Rattle.aud_explanation.specs.EventText.{after_words, happens_words, event_words, has_room, piece, piece_end, pieces, pieces_end, left_words, row_words, events_text};
+ghost use Rattle.std.specs.Prelude.{◌≡◌, ◌++◌, IfOk, OnOk, codes, map, string_bytes};
+ghost use Rattle.aud_explanation.specs.EventText.{event_words, events_text, happens_words, left_words, piece, piece_end, pieces, pieces_end, row_words};
 
 use crate::event::{ClientEvent, Happens};
 use crate::long::{first_shown, last_shown, left_out};
 use crate::text::span::push_span;
 use std::alloc::{AllocError, Global};
 
-/// Puts the position after which a client asks to go on at the end.
-fn push_after(out: &mut String, after: Option<u64>) -> Result<(), AllocError>
-    ensures { OnOk result (string_bytes out.new ≡ string_bytes out.old ++ after_words after) }
-{
-    match after {
-        Some(position) => write!(out, " asks after {position}"),
-        None => write!(out, " asks"),
-    }
-}
-
 /// Puts the words for what happens at the end.
 fn push_happens(out: &mut String, happens: Happens) -> Result<(), AllocError>
     ensures { OnOk result (string_bytes out.new ≡ string_bytes out.old ++ happens_words happens) }
 {
     match happens {
-        Happens::Asks { after } => push_after(out, after),
+        Happens::Asks { after: None } => out.push_str(" asks"),
+        Happens::Asks {
+            after: Some(position),
+        } => write!(out, " asks after {position}"),
         Happens::Reply => out.push_str(" reply"),
         Happens::Refused => out.push_str(" refused"),
         Happens::Got { from, to } => {
@@ -43,34 +36,18 @@ fn event_words(alloc: Global, event: &ClientEvent) -> Result<String, AllocError>
     Ok(text)
 }
 
-/// Whether the words stand within the line, two blanks before them.
-fn has_room(column: usize, words: &str) -> bool
-    ensures { result ≡ has_room column words.now }
+/// Puts the words at the end, in the next line where this one has no room for two blanks and them; the column after them.
+fn push_piece(out: &mut String, column: usize, words: &str) -> Result<usize, AllocError>
+    ensures text { OnOk result (string_bytes out.new
+        ≡ string_bytes out.old ++ piece column words.now) }
+    ensures end { IfOk result (λ end. end ≡ piece_end column words.now) }
 {
-    words.len() < 99usize.saturating_sub(column)
-}
-
-/// Puts the words at the end, in the next line where this one has no room.
-fn push_piece(out: &mut String, column: usize, words: &str) -> Result<(), AllocError>
-    ensures { OnOk result (string_bytes out.new ≡ string_bytes out.old ++ piece column words.now) }
-{
-    if has_room(column, words) {
-        out.push_str("  ")?;
-    } else {
-        out.push_str("\n        ")?;
+    if words.len() < 99usize.saturating_sub(column) {
+        write!(out, "  {words}")?;
+        return Ok(column + 2 + words.len());
     }
-    out.push_str(words)
-}
-
-/// The column after the words.
-fn piece_end(column: usize, words: &str) -> usize
-    ensures { result ≡ piece_end column words.now }
-{
-    if has_room(column, words) {
-        column + 2 + words.len()
-    } else {
-        8 + words.len().min(92)
-    }
+    write!(out, "\n        {words}")?;
+    Ok(8 + words.len().min(92))
 }
 
 /// Puts what happens at the end, and gives the column after it.
@@ -85,9 +62,7 @@ fn push_event(
     ensures end { IfOk result (λ end. end ≡ piece_end column (event_words event.now)) }
 {
     let words = event_words(alloc, event)?;
-    let words = words.as_str();
-    push_piece(out, column, words)?;
-    Ok(piece_end(column, words))
+    push_piece(out, column, words.as_str())
 }
 
 /// Puts these events at the end, from that column on, and gives the column after them.
@@ -123,9 +98,7 @@ fn push_left_words(
         return Ok(column);
     }
     let words = format!(in alloc; ".. {left} more ..")?;
-    let words = words.as_str();
-    push_piece(out, column, words)?;
-    Ok(piece_end(column, words))
+    push_piece(out, column, words.as_str())
 }
 
 /// Puts the events that are shown at the end, from the column of the row on, and the newline.

@@ -1,14 +1,14 @@
 //! The table of evidence.
 ghost use Rattle.std.specs.Prelude.{◌≡◌, ◌++◌, OnOk, string_bytes};
-ghost use Rattle.aud_explanation.specs.Evidence.{tap_width, said_words, row_words, row_line, row_text, rows_text, heading_text, table_text, evidence_text};
+ghost use Rattle.aud_explanation.specs.Evidence.{evidence_text, heading_text, row_text, row_words, rows_text, table_text, tap_width};
 
 use crate::long::{first_shown, last_shown, push_more};
 use crate::long_rows::{kept_rows, rows_left};
-use crate::name::Names;
+use crate::name::{Names, push_named};
 use crate::text::mark::mark;
-use crate::text::page::{push_left, push_line, push_right};
+use crate::text::page::{push_blanks, push_left, push_line};
 use crate::text::place::push_place;
-use crate::text::record::{other_session, push_of, push_record};
+use crate::text::record::{other_session, push_record};
 use aud_input::InputFile;
 use aud_rows::Row;
 use aud_verdict::Verdict;
@@ -25,16 +25,7 @@ fn tap_width(rows: &[Row<'_>]) -> usize
     width
 }
 
-/// Puts what the record of a row says at the end, and of which session, where that isn't the one with this pid.
-fn push_said(alloc: Global, line: &mut String, pid: &str, row: &Row<'_>) -> Result<(), AllocError>
-    ensures { OnOk result (string_bytes line.new
-        ≡ string_bytes line.old ++ said_words pid.now row.now) }
-{
-    push_record(alloc, line, Names::Short, row.says)?;
-    push_of(alloc, line, other_session(row.session, pid))
-}
-
-/// Puts the words of a row at the end.
+/// Puts the words of a row at the end: of a record that speaks of another session than the one with this pid, of which.
 fn push_words(
     alloc: Global,
     line: &mut String,
@@ -48,15 +39,20 @@ fn push_words(
 {
     let number = row.line;
     let digits = format!(in alloc; "{number}")?;
-    push_right(line, digits.as_str(), 8)?;
+    let digits = digits.as_str();
+    push_blanks(line, 8usize.saturating_sub(digits.len()))?;
+    line.push_str(digits)?;
     line.push_str(" ")?;
     push_left(line, row.tap, width)?;
     line.push_str("  ")?;
-    push_said(alloc, line, pid, row)?;
+    push_record(alloc, line, Names::Short, row.says)?;
+    let other = other_session(row.session, pid);
+    push_named(alloc, line, Names::Short, " of ", other, "")?;
     line.push_str(mark(row.role, verdict))
 }
 
 /// Puts the line of a row at the end.
+#[tactic(auto, unfolding(crate::specs::Evidence::row_text))]
 pub(crate) fn push_row(
     alloc: Global,
     out: &mut String,

@@ -1,6 +1,6 @@
 //! What a record is shown for, in words.
 ghost use Rattle.std.specs.Prelude.{◌≡◌};
-ghost use Rattle.aud_explanation.specs.Mark.{fault_mark, verdict_mark, mark};
+ghost use Rattle.aud_explanation.specs.Mark.{fault_mark, mark};
 
 use aud_cert::Fault;
 use aud_rows::Role;
@@ -28,21 +28,15 @@ fn fault_mark(fault: &Fault) -> &'static str
     }
 }
 
-fn verdict_mark(verdict: &Verdict) -> &'static str
-    ensures { result.now ≡ verdict_mark verdict.now }
-{
-    match verdict {
-        Verdict::No(fault) => fault_mark(fault),
-        Verdict::Yes { .. } => "  <- here",
-    }
-}
-
 /// What a record is shown for, under this verdict; nothing where the record says it itself.
 pub(crate) fn mark(role: Role, verdict: &Verdict) -> &'static str
     ensures { result.now ≡ mark role verdict.now }
 {
     match role {
-        Role::Fault => verdict_mark(verdict),
+        Role::Fault => match verdict {
+            Verdict::No(fault) => fault_mark(fault),
+            Verdict::Yes { .. } => "  <- here",
+        },
         Role::Earlier => "  earlier",
         Role::Later => "  later",
         Role::Entry => "  the entry",

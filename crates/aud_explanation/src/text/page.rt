@@ -2,7 +2,7 @@
 ghost use Rattle.std.specs.Prelude.{◌≡◌, ◌+◌, ◌++◌, ◌≤◌, true, IfOk, OnOk, drop, length, take, string_bytes};
 ghost use Rattle.std.specs.List.{list_all};
 ghost use Rattle.std.specs.Str.{IsUtf8, chars};
-ghost use Rattle.aud_explanation.specs.Page.{columns, fits, word_fits, ends_line, placed, next_column, laid, laid_line, blanks, to_left, to_right};
+ghost use Rattle.aud_explanation.specs.Page.{columns, fits, word_fits, ends_line, placed, next_column, laid, laid_line, blanks, to_left};
 ghost use Rattle.aud_explanation.specs.Private.Front.{is_plain, stays_together};
 
 use crate::escape::{is_hidden, push_shown};
@@ -161,12 +161,4 @@ pub(crate) fn push_left(out: &mut String, text: &str, width: usize) -> Result<()
 {
     out.push_str(text)?;
     push_blanks(out, width.saturating_sub(text.len()))
-}
-
-/// Puts the text at the end, and blanks before it up to the width in bytes.
-pub(crate) fn push_right(out: &mut String, text: &str, width: usize) -> Result<(), AllocError>
-    ensures { OnOk result (string_bytes out.new ≡ string_bytes out.old ++ to_right width text.now) }
-{
-    push_blanks(out, width.saturating_sub(text.len()))?;
-    out.push_str(text)
 }

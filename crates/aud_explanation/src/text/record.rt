@@ -1,49 +1,11 @@
 //! What a record says, in words, and of which session.
 ghost use Rattle.std.specs.Prelude.{◌≡◌, ◌++◌, OnOk, string_bytes};
 ghost use Rattle.std.specs.Option.{option_copied};
-ghost use Rattle.aud_explanation.specs.Record.{other_session, of_words, record_text, pid_words, after_words, asks_words, entry_words, lacks_words, names_words, open_words, reply_words, takes_up, takes_words};
+ghost use Rattle.aud_explanation.specs.Record.{asks_words, entry_words, lacks_words, names_words, open_words, other_session, record_text, reply_words, takes_up};
 
-use crate::name::{Names, push_name};
+use crate::name::{Names, push_name, push_named};
 use aud_rows::Says;
 use std::alloc::{AllocError, Global};
-
-/// Puts the words for the session of a reply at the end.
-fn push_pid(
-    alloc: Global,
-    out: &mut String,
-    names: Names,
-    pid: Option<&str>,
-) -> Result<(), AllocError>
-    ensures { OnOk result (string_bytes out.new
-        ≡ string_bytes out.old ++ pid_words names pid.entry) }
-{
-    match pid {
-        Some(pid) => {
-            out.push_str(", pid ")?;
-            push_name(alloc, out, names, pid)
-        }
-        None => out.push_str(", no pid"),
-    }
-}
-
-/// Puts the words for where a client asks to go on at the end.
-fn push_after(
-    alloc: Global,
-    out: &mut String,
-    names: Names,
-    off: Option<&str>,
-) -> Result<(), AllocError>
-    ensures { OnOk result (string_bytes out.new
-        ≡ string_bytes out.old ++ after_words names off.entry) }
-{
-    match off {
-        Some(off) => {
-            out.push_str(" after ")?;
-            push_name(alloc, out, names, off)
-        }
-        None => out.push_str(", no offset"),
-    }
-}
 
 /// Puts what a client asks for at the end.
 fn push_asks(
@@ -59,7 +21,7 @@ fn push_asks(
 {
     write!(out, "conn {conn} asks ")?;
     push_name(alloc, out, names, pid)?;
-    push_after(alloc, out, names, off)
+    push_named(alloc, out, names, " after ", off, ", no offset")
 }
 
 /// Puts the names of a reply at the end.
@@ -75,7 +37,7 @@ fn push_names(
 {
     out.push_str(", sid ")?;
     push_name(alloc, out, names, sid)?;
-    push_pid(alloc, out, names, pid)
+    push_named(alloc, out, names, ", pid ", pid, ", no pid")
 }
 
 /// Puts what a client is answered at the end.
@@ -94,42 +56,20 @@ fn push_reply(
     push_names(alloc, out, names, sid, pid)
 }
 
-/// Puts an entry at the end, by its position and its offset.
+/// Puts an entry at the end behind the words, by its position and its offset.
 fn push_entry(
     alloc: Global,
     out: &mut String,
     names: Names,
+    words: &str,
     position: u64,
     off: &str,
 ) -> Result<(), AllocError>
     ensures { OnOk result (string_bytes out.new
-        ≡ string_bytes out.old ++ entry_words names position off.now) }
+        ≡ string_bytes out.old ++ entry_words names words.now position off.now) }
 {
-    write!(out, "{position} ")?;
+    write!(out, "{words}{position} ")?;
     push_name(alloc, out, names, off)
-}
-
-/// Puts the words that come first where a node takes several entries at the end.
-#[tactic(auto, unfolding(crate::specs::Record::takes_up))]
-fn push_takes_up(out: &mut String) -> Result<(), AllocError>
-    ensures { OnOk result (string_bytes out.new ≡ string_bytes out.old ++ takes_up) }
-{
-    out.push_str("takes up to ")
-}
-
-/// Puts up to which entry a node takes at the end.
-fn push_takes(
-    alloc: Global,
-    out: &mut String,
-    names: Names,
-    position: u64,
-    off: &str,
-) -> Result<(), AllocError>
-    ensures { OnOk result (string_bytes out.new
-        ≡ string_bytes out.old ++ takes_words names position off.now) }
-{
-    push_takes_up(out)?;
-    push_entry(alloc, out, names, position, off)
 }
 
 /// Puts the session that opens at the end.
@@ -149,6 +89,14 @@ fn push_open(
     out.push_str(", namespace ")?;
     push_name(alloc, out, names, nsp)?;
     write!(out, ", cursor {cursor}")
+}
+
+/// The words that come first where a node takes several entries.
+#[tactic(auto, unfolding(crate::specs::Record::takes_up))]
+fn takes_up() -> &'static str
+    ensures { result.now ≡ takes_up }
+{
+    "takes up to "
 }
 
 /// Puts how many attachments a packet lacks at the end.
@@ -171,16 +119,12 @@ pub(crate) fn push_record(
         ≡ string_bytes out.old ++ record_text names says.entry) }
 {
     match says {
-        Says::Entry { position, off } => {
-            out.push_str("entry ")?;
-            push_entry(alloc, out, names, position, off)
-        }
+        Says::Entry { position, off } => push_entry(alloc, out, names, "entry ", position, off),
         Says::Start { cursor } => write!(out, "start, cursor {cursor}"),
-        Says::Take { position, off } => {
-            out.push_str("take ")?;
-            push_entry(alloc, out, names, position, off)
+        Says::Take { position, off } => push_entry(alloc, out, names, "take ", position, off),
+        Says::Takes { position, off } => {
+            push_entry(alloc, out, names, takes_up(), position, off)
         }
-        Says::Takes { position, off } => push_takes(alloc, out, names, position, off),
         Says::Open { sid, nsp, cursor } => push_open(alloc, out, names, sid, nsp, cursor),
         Says::Join { room } => {
             out.push_str("join ")?;
@@ -200,8 +144,8 @@ pub(crate) fn push_record(
             position,
             off,
         } => {
-            write!(out, "conn {conn} got ")?;
-            push_entry(alloc, out, names, position, off)
+            write!(out, "conn {conn} got {position} ")?;
+            push_name(alloc, out, names, off)
         }
         Says::Lost { conn } => write!(out, "conn {conn} lost"),
         Says::Lacks { conn, missing } => push_lacks(out, conn, missing),
@@ -215,22 +159,4 @@ pub(crate) fn other_session<'r>(session: Option<&'r str>, pid: &str) -> Option<&
 {
     let session = session?;
     if session == pid { None } else { Some(session) }
-}
-
-/// Puts that session at the end, in words.
-pub(crate) fn push_of(
-    alloc: Global,
-    out: &mut String,
-    session: Option<&str>,
-) -> Result<(), AllocError>
-    ensures { OnOk result (string_bytes out.new
-        ≡ string_bytes out.old ++ of_words (option_copied session.entry)) }
-{
-    match session {
-        Some(session) => {
-            out.push_str(" of ")?;
-            push_name(alloc, out, Names::Short, session)
-        }
-        None => Ok(()),
-    }
 }

@@ -1,11 +1,10 @@
 //! The recoveries that were refused.
-ghost use Rattle.std.specs.Prelude.{◌≡◌, ◌++◌, OnOk, flat_map, length, string_bytes};
+ghost use Rattle.std.specs.Prelude.{◌≡◌, ◌++◌, OnOk, flat_map, string_bytes};
 ghost use Rattle.std.specs.Option.{option_copied};
-ghost use Rattle.aud_explanation.specs.Evidence.{row_text};
-ghost use Rattle.aud_explanation.specs.RefusedText.{got_session, got_words, instead_words, count_words, head_line, head_text, reply_text, missed_line, missed_text, all_missed_text, refused_text, unexplained_text, each_refused_text, all_refused_text};
+ghost use Rattle.aud_explanation.specs.RefusedText.{all_missed_text, all_refused_text, count_words, each_refused_text, head_text, missed_text, refused_text, reply_text, unexplained_text};
 
 use crate::long::{first_shown, last_shown, left_out, push_more};
-use crate::name::{Names, push_name};
+use crate::name::{Names, push_name, push_named};
 use crate::refused::{Missed, RefusedRecovery};
 use crate::text::evidence::push_row;
 use crate::text::page::push_line;
@@ -13,33 +12,6 @@ use aud_input::InputFile;
 use aud_rows::Row;
 use aud_verdict::Verdict;
 use std::alloc::{AllocError, Global};
-
-/// Puts the words before the session that a client got at the end.
-#[tactic(auto, unfolding(crate::specs::RefusedText::got_session))]
-fn push_got_session(line: &mut String) -> Result<(), AllocError>
-    ensures { OnOk result (string_bytes line.new ≡ string_bytes line.old ++ got_session) }
-{
-    line.push_str("got session ")
-}
-
-/// Puts the session that a client got at the end.
-fn push_got(alloc: Global, line: &mut String, pid: &str) -> Result<(), AllocError>
-    ensures { OnOk result (string_bytes line.new ≡ string_bytes line.old ++ got_words pid.now) }
-{
-    push_got_session(line)?;
-    push_name(alloc, line, Names::Short, pid)
-}
-
-/// Puts the session that a client got instead at the end.
-fn push_instead(alloc: Global, line: &mut String, instead: Option<&str>) -> Result<(), AllocError>
-    ensures { OnOk result (string_bytes line.new
-        ≡ string_bytes line.old ++ instead_words (option_copied instead.entry)) }
-{
-    match instead {
-        Some(pid) => push_got(alloc, line, pid),
-        None => line.push_str("got no session"),
-    }
-}
 
 /// Puts how many entries a client missed at the end.
 fn push_count(line: &mut String, missed: Option<&[Missed<'_>]>) -> Result<(), AllocError>
@@ -56,6 +28,7 @@ fn push_count(line: &mut String, missed: Option<&[Missed<'_>]>) -> Result<(), Al
 }
 
 /// Puts the line of a refused recovery at the end.
+#[tactic(auto, unfolding(crate::specs::RefusedText::head_text))]
 fn push_head(
     alloc: Global,
     out: &mut String,
@@ -65,7 +38,15 @@ fn push_head(
 {
     let mut line = String::new(alloc);
     line.push_str("refused recovery: ")?;
-    push_instead(alloc, &mut line, refused.instead)?;
+    let instead = refused.instead;
+    push_named(
+        alloc,
+        &mut line,
+        Names::Short,
+        "got session ",
+        instead,
+        "got no session",
+    )?;
     push_count(&mut line, refused.missed)?;
     push_line(out, line.as_str())
 }

@@ -1,15 +1,8 @@
 //! Numbers, in words.
-ghost use Rattle.std.specs.Prelude.{◌≡◌, ◌++◌, OnOk, decimal, string_bytes};
-ghost use Rattle.aud_explanation.specs.Span.{span, listed, line_word, lines_listed};
+ghost use Rattle.std.specs.Prelude.{◌≡◌, ◌++◌, OnOk, string_bytes};
+ghost use Rattle.aud_explanation.specs.Span.{known_words, line_word, lines_listed, span};
 
 use std::alloc::AllocError;
-
-/// Puts the number at the end.
-pub(crate) fn push_number(out: &mut String, number: u64) -> Result<(), AllocError>
-    ensures { OnOk result (string_bytes out.new ≡ string_bytes out.old ++ decimal number) }
-{
-    write!(out, "{number}")
-}
 
 /// Puts the numbers from one to another at the end: `1-4`, or `1` where both are the same.
 pub(crate) fn push_span(out: &mut String, from: u64, to: u64) -> Result<(), AllocError>
@@ -22,15 +15,19 @@ pub(crate) fn push_span(out: &mut String, from: u64, to: u64) -> Result<(), Allo
     }
 }
 
-/// Puts the numbers at the end, a blank before each.
-pub(crate) fn push_listed(out: &mut String, numbers: &[u64]) -> Result<(), AllocError>
-    ensures { OnOk result (string_bytes out.new ≡ string_bytes out.old ++ listed numbers.now) }
+/// Puts the words and the number at the end, where it is known.
+pub(crate) fn push_known(
+    out: &mut String,
+    words: &str,
+    number: Option<u64>,
+) -> Result<(), AllocError>
+    ensures { OnOk result (string_bytes out.new
+        ≡ string_bytes out.old ++ known_words words.now number) }
 {
-    for number in numbers {
-        let number = *number;
-        write!(out, " {number}")?;
+    match number {
+        Some(number) => write!(out, "{words}{number}"),
+        None => Ok(()),
     }
-    Ok(())
 }
 
 /// The word for these lines.
@@ -48,5 +45,8 @@ pub(crate) fn push_lines(out: &mut String, lines: &[u64]) -> Result<(), AllocErr
     ensures { OnOk result (string_bytes out.new ≡ string_bytes out.old ++ lines_listed lines.now) }
 {
     out.push_str(line_word(lines))?;
-    push_listed(out, lines)
+    for number in lines {
+        write!(out, " {number}")?;
+    }
+    Ok(())
 }

@@ -1,10 +1,10 @@
 //! The rows of the turns.
 ghost use Rattle.std.specs.Prelude.{◌≡◌, ◌++◌, OnOk, string_bytes};
-ghost use Rattle.aud_explanation.specs.TurnText.{node_width, begin_name, begin_words, took_words, ending, end_words, names_words, turn_line, turn_text, rows_text, turns_text};
+ghost use Rattle.aud_explanation.specs.TurnText.{begin_name, end_words, ending, node_width, rows_text, took_words, turn_text, turns_text};
 
 use crate::long::{first_shown, last_shown, left_out, push_more};
 use crate::text::page::{push_left, push_line};
-use crate::text::span::{push_number, push_span};
+use crate::text::span::push_span;
 use crate::turn::{TurnBegin, TurnEnd, TurnShown};
 use std::alloc::{AllocError, Global};
 
@@ -19,7 +19,7 @@ fn node_width(turns: &[TurnShown<'_>]) -> usize
     width
 }
 
-/// The record by which a turn begins.
+/// The record by which a turn begins, and the word for the cursor there.
 fn begin_name(begin: TurnBegin) -> &'static str
     ensures { result.now ≡ begin_name begin }
 {
@@ -27,18 +27,6 @@ fn begin_name(begin: TurnBegin) -> &'static str
         TurnBegin::Open => " open, cursor ",
         TurnBegin::Back => " back, cursor ",
     }
-}
-
-/// Puts the record by which a turn begins at the end, and the cursor there.
-fn push_begin(line: &mut String, begin: TurnBegin, at: u64, cursor: u64) -> Result<(), AllocError>
-    ensures { OnOk result (string_bytes line.new
-        ≡ string_bytes line.old ++ begin_words begin at cursor) }
-{
-    line.push_str("  ")?;
-    push_number(line, at)?;
-    line.push_str(begin_name(begin))?;
-    push_number(line, cursor)?;
-    line.push_str(" ==")
 }
 
 /// Puts what a node took in a turn at the end.
@@ -60,10 +48,7 @@ fn push_ending(line: &mut String, at: u64, how: &str, cursor: u64) -> Result<(),
     ensures { OnOk result (string_bytes line.new
         ≡ string_bytes line.old ++ ending at how.now cursor) }
 {
-    line.push_str(" ")?;
-    push_number(line, at)?;
-    line.push_str(how)?;
-    push_number(line, cursor)
+    write!(line, " {at}{how}{cursor}")
 }
 
 /// Puts how a turn ends at the end, and the cursor there.
@@ -78,28 +63,6 @@ fn push_end(line: &mut String, end: TurnEnd) -> Result<(), AllocError>
     }
 }
 
-/// Puts the number of a turn at the end, and its node.
-fn push_names(line: &mut String, width: usize, turn: &TurnShown<'_>) -> Result<(), AllocError>
-    ensures { OnOk result (string_bytes line.new
-        ≡ string_bytes line.old ++ names_words width turn.now) }
-{
-    line.push_str("    turn ")?;
-    push_number(line, u64::from(turn.turn))?;
-    line.push_str("  ")?;
-    push_left(line, turn.node, width)
-}
-
-/// Puts the words of a turn at the end.
-fn push_words(line: &mut String, width: usize, turn: &TurnShown<'_>) -> Result<(), AllocError>
-    ensures { OnOk result (string_bytes line.new
-        ≡ string_bytes line.old ++ turn_line width turn.now) }
-{
-    push_names(line, width, turn)?;
-    push_begin(line, turn.begin, turn.begin_line, turn.low)?;
-    push_took(line, turn.took)?;
-    push_end(line, turn.end)
-}
-
 /// Puts the row of a turn at the end.
 fn push_turn(
     alloc: Global,
@@ -110,8 +73,13 @@ fn push_turn(
     ensures { OnOk result (string_bytes out.new
         ≡ string_bytes out.old ++ turn_text width turn.now) }
 {
-    let mut line = String::new(alloc);
-    push_words(&mut line, width, turn)?;
+    let (number, at, low) = (turn.turn, turn.begin_line, turn.low);
+    let mut line = format!(in alloc; "    turn {number}  ")?;
+    push_left(&mut line, turn.node, width)?;
+    let begin = begin_name(turn.begin);
+    write!(&mut line, "  {at}{begin}{low} ==")?;
+    push_took(&mut line, turn.took)?;
+    push_end(&mut line, turn.end)?;
     push_line(out, line.as_str())
 }
 

@@ -1,7 +1,7 @@
 use Rattle.std.proofs.Common.{◌≡◌, drop}
 use Rattle.std.specs.List.{list_all}
 use Rattle.aud_explanation.specs.Named.{is_of_plain}
-use Rattle.aud_explanation.proofs.name.are_plain.Given as goal
+use Rattle.aud_explanation.proofs.name.is_plain_name.Given as goal
 
 -- all so far are, and what is left decides
 abbrev pub invariant-loop-c : goal.invariant-loop-c
