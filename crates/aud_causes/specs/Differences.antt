@@ -1,5 +1,5 @@
 -- What a difference between what was received and what was due may come from.
-use Rattle.std.specs.Prelude.{ℕ, not, ◌&&◌, ◌++◌, List, [], ◌∷◌, map, Option, option_to_list, nat_lt, nat_le}
+use Rattle.std.specs.Prelude.{ℕ, not, ◌&&◌, ◌++◌, List, [], ◌∷◌, map, Option, option_to_list, if◌then◌else◌, nat_lt, nat_le}
 use Rattle.std.specs.Option.{option_and_then, option_or}
 use Rattle.aud_node.specs.Cluster.{Cluster}
 use Rattle.aud_node.specs.Stream.{Text}
@@ -60,27 +60,23 @@ case_of c account numbers made =
 
 -- ---- the offset of another session
 
--- the entry after which the client asked to go on in the stay was not due to the session
-abbrev pub offset_of_another : List ℕ → ℕ → ℕ → Option Cause
-offset_of_another due stay after = cause_if (not (has_position due after)) (OffsetOfAnotherSession stay after)
+-- the client asked in the stay to go on after this entry, and it was not due to the session
+abbrev pub offset_of_another : List ℕ → ℕ → Option ℕ → Option Cause
+offset_of_another due stay asked = option_and_then (λ after. cause_if (not (has_position due after)) (OffsetOfAnotherSession stay after)) asked
 
 -- so it is in the later stay, and the entry in question comes after it
 abbrev pub other_session_before : List ℕ → Facts → Option Cause
 other_session_before due f =
     option_and_then (λ after. cause_if (nat_lt after f.parted.position && not (has_position due after)) (OffsetOfAnotherSession f.later after)) f.asked
 
--- so it is, and the entry in question doesn't
-abbrev pub other_session_after : List ℕ → Facts → Option Cause
-other_session_after due f =
-    option_and_then (λ after. cause_if (nat_le f.parted.position after && not (has_position due after)) (OffsetOfAnotherSession f.later after)) f.asked
+-- where the entry in question doesn't: so it is; or the entry was due to the session, and its frame isn't recorded: up to
+-- there the client's tap has frames of the entries before alone
+abbrev pub past_cause : List ℕ → ℕ → ℕ → Cause
+past_cause due stay after = if has_position due after then FrameNotRecorded stay after else OffsetOfAnotherSession stay after
 
--- ---- a frame that the tap doesn't have
-
--- the client asked in the later stay to go on after an entry that was due to the session, and is the one in question or
--- comes after it: up to there its tap has frames of the entries before alone
-abbrev pub frame_not_recorded : List ℕ → Facts → Option Cause
-frame_not_recorded due f =
-    option_and_then (λ after. cause_if (nat_le f.parted.position after && has_position due after) (FrameNotRecorded f.later after)) f.asked
+-- the client asked in the later stay to go on after the one in question, or one that comes after it
+abbrev pub asked_past : List ℕ → Facts → Option Cause
+asked_past due f = option_and_then (λ after. cause_if (nat_le f.parted.position after) (past_cause due f.later after)) f.asked
 
 -- ---- the causes, in their order
 
@@ -107,11 +103,11 @@ abbrev pub swapped_causes : Cluster → List TurnSeen → Facts → List Cause
 swapped_causes c turns f = held (node_behind c turns f ∷ swapped_in_replay f ∷ swapped_live f ∷ [])
 
 -- of an entry that was lost, where this holds of the rooms at the break, and of a `leave`: the first; it was left out of
--- the replay; the offset was another session's; its frame was not recorded; it was left out while the client was
+-- the replay; the offset was another session's, or a frame was not recorded; it was left out while the client was
 -- connected; the `leave` is missing
 abbrev pub lost_causes : Option Cause → List ℕ → Option Cause → Facts → List Cause
 lost_causes at_break due leave f =
-    held (at_break ∷ skipped_in_window f ∷ other_session_after due f ∷ frame_not_recorded due f ∷ lost_live f ∷ leave ∷ [])
+    held (at_break ∷ skipped_in_window f ∷ asked_past due f ∷ lost_live f ∷ leave ∷ [])
 
 -- the same of a session's entry
 abbrev pub lost_in : Case → Facts → List Cause

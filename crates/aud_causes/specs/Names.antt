@@ -7,7 +7,9 @@ use Rattle.aud_node.specs.Cluster.{Cluster}
 use Rattle.aud_node.specs.Stream.{Text}
 use Rattle.aud_client.specs.Received.{TranscriptSeen, transcript_at}
 use Rattle.aud_client.specs.StaySeen.{StaySeen}
+use Rattle.aud_cert.specs.Certificate.{TurnSeen}
 use Rattle.aud_check.specs.NamedStays.{has_sid}
+use Rattle.aud_session_facts.specs.Opened.{opened_in}
 use Rattle.aud_causes.specs.declared.cause.Cause.{Cause}
 use Rattle.aud_causes.specs.declared.cause.Cause.TheVariants.{NoClientTap, ReplyMissing, TwoTaps, SidDiffers, NamespaceDiffers}
 use Rattle.aud_causes.specs.Bare.{tap_without_packets}
@@ -42,14 +44,10 @@ unnamed_from c place (tap ∷ taps) = if has_unnamed c place (transcript_at c pl
 abbrev pub reply_missing : Cluster → Option Cause
 reply_missing c = option_map ReplyMissing (unnamed_from c 0 c.taps)
 
--- of a session that no client's tap names: no tap does; a tap has a CONNECT or events of no known session; a tap has a
--- connection without a packet, which may be the session's
-abbrev pub unnamed_causes : Cluster → Text → List Cause
-unnamed_causes c pid = held (Some NoClientTap ∷ reply_missing c ∷ tap_without_packets c pid ∷ [])
-
--- of so many clients' taps that name the session: none, or several
+-- of so many clients' taps that name the session. None: no tap does; a tap has a CONNECT or events of no known session; a
+-- tap has a connection without a packet, which may be the session's. Or several
 abbrev pub client_causes : Cluster → Text → ℕ → List Cause
-client_causes c pid zero = unnamed_causes c pid
+client_causes c pid zero = held (Some NoClientTap ∷ reply_missing c ∷ tap_without_packets c pid ∷ [])
 client_causes c pid (suc zero) = []
 client_causes c pid (suc (suc more)) = TwoTaps (suc (suc more)) ∷ []
 
@@ -73,6 +71,11 @@ sid_differs sid stays = option_map SidDiffers (other_sid sid 0 stays)
 abbrev pub namespace_differs : Text → List StaySeen → Option Cause
 namespace_differs nsp stays = option_map NamespaceDiffers (other_namespace nsp 0 stays)
 
--- what differs in these stays, whose replies name the session
-abbrev pub named_causes : Text → Text → List StaySeen → List Cause
-named_causes sid nsp stays = held (sid_differs sid stays ∷ namespace_differs nsp stays ∷ [])
+-- what differs between this, which the session's first record opens, and these stays, whose replies name the session
+abbrev pub names_by : Option (Text × Text × ℕ) → List StaySeen → List Cause
+names_by None stays = []
+names_by (Some opened) stays = held (sid_differs opened.0 stays ∷ namespace_differs opened.1 stays ∷ [])
+
+-- the same of the first of these turns
+abbrev pub names_causes : List TurnSeen → List StaySeen → List Cause
+names_causes turns stays = names_by (opened_in turns) stays

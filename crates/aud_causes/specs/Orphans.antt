@@ -147,5 +147,7 @@ abbrev pub orphan_causes_of : Cluster → ℕ → ℕ → Option StaySeen → Li
 orphan_causes_of c client number None = []
 orphan_causes_of c client number (Some stay) = replied_causes c client number stay stay.reply
 
-abbrev pub orphan_causes : Cluster → ℕ → ℕ → List Cause
-orphan_causes c client number = orphan_causes_of c client number (slice_get (stays_at c client) number)
+-- the same of that with this number, if it is given
+abbrev pub orphan_at : Cluster → ℕ → Option ℕ → List Cause
+orphan_at c client None = []
+orphan_at c client (Some number) = orphan_causes_of c client number (slice_get (stays_at c client) number)

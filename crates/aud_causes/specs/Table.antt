@@ -1,5 +1,5 @@
 -- All that is said of a cause: one table, with a row for each, in the order of the causes.
-use Rattle.std.specs.Prelude.{true, false, List, [], ◌∷◌, codes, flat_map, Some, None, option_to_list}
+use Rattle.std.specs.Prelude.{true, false, List, [], ◌∷◌, codes, Some, None}
 use Rattle.aud_node.specs.Stream.{Text}
 use Rattle.aud_check.specs.declared.content.Part.{Part}
 use Rattle.aud_check.specs.declared.content.Part.TheVariants as part
@@ -7,9 +7,6 @@ use Rattle.aud_causes.specs.declared.why.Figure.{Figure}
 use Rattle.aud_causes.specs.declared.why.Figure.TheVariants.{Name, Number, Nth}
 use Rattle.aud_causes.specs.declared.record_at.RecordAt.{RecordAt}
 use Rattle.aud_causes.specs.declared.record_at.RecordAt.TheVariants.{Node, Got, Ask, Reply, First, Bad}
-use Rattle.aud_causes.specs.declared.record_at.Records.{Records}
-use Rattle.aud_causes.specs.declared.record_at.Records.TheVariants.{Nothing, One, Two, Four}
-use Rattle.aud_causes.specs.declared.table.Row.{Row}
 use Rattle.aud_causes.specs.NoPacket.{advice, no_packet_figures, no_packet_words}
 use Rattle.aud_causes.specs.declared.cause.Cause.{Cause}
 use Rattle.aud_causes.specs.declared.cause.Cause.TheVariants.{NodeBehindBreak, SentAgainAfterReplay, ReplayIncludesOffset, DoubledInReplay, StaleOffset, BodyCameTwice, OffsetOfAnotherSession, FrameNotRecorded, UnknownOffset, NoOffset, RoomsAtBreak, SkippedInWindow, LostLive, DoubledLive, SwappedLive, SwappedInReplay, AnotherEncoder, AttachmentsReordered, AnotherEvent, Altered, LogEndedEarly, SentAfterEnd, LateLeave, BeforeBirth, ExtraLive, JoinMissing, LeaveMissing, RecoveryNotRecorded, MissingBreak, MissingBack, ClearedAfterBreak, TurnNotStored, RecoveredTwice, OpenedTwice, OpenNotRecorded, NodeNotTapped, NoStart, RestartedInOldLog, EntriesSkippedByNode, EntryTakenAgain, NotInStream, TwoTaps, NoClientTap, ReplyMissing, ClientTapHasNoPackets, SidDiffers, NamespaceDiffers, NotAPacket, TapBeganLate, CutBeforeReply, ReplyWithoutPid, OutAfterAnswer, SecondConnect, AfterDisconnect, SessionOver, NodeEndedInTurn, NeverBroken, AskedTooEarly}
@@ -26,17 +23,6 @@ pub record CauseRow : Type 0 where
 -- the row of these
 abbrev pub row : Text → List RecordAt → Text → List Figure → Text → CauseRow
 row id records why figures todo = record { id = id; records = records; why = why; figures = figures; todo = todo }
-
--- each of these records
-abbrev pub records_in : Records → List RecordAt
-records_in Nothing = []
-records_in (One first) = first ∷ []
-records_in (Two first second) = first ∷ second ∷ []
-records_in (Four first second third fourth) = first ∷ second ∷ third ∷ fourth ∷ []
-
--- the same of one in the code
-abbrev pub row_seen : Row → CauseRow
-row_seen r = row r.id.now (records_in r.records) r.why.now (flat_map option_to_list r.figures) r.todo.now
 
 -- which part of an event isn't its entry's
 abbrev pub part_words : Part → Text

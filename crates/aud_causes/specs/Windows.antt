@@ -7,9 +7,9 @@ use Rattle.aud_client.specs.StaySeen.{AskedSeen, StaySeen}
 use Rattle.aud_check.specs.declared.window.BadWindow.{BadWindow}
 use Rattle.aud_check.specs.declared.window.Misfit.{Misfit}
 use Rattle.aud_check.specs.declared.window.Misfit.TheVariants as misfit
+use Rattle.aud_session_facts.specs.StayTurns.{asked_after}
 use Rattle.aud_causes.specs.declared.cause.Cause.{Cause}
 use Rattle.aud_causes.specs.declared.cause.Cause.TheVariants.{NoOffset, UnknownOffset, StaleOffset}
-use Rattle.aud_causes.specs.Facts.{asked_after}
 use Rattle.aud_causes.specs.Delivery.{cause_if, held}
 use Rattle.aud_causes.specs.NamedEntries.{is_named}
 use Rattle.aud_causes.specs.Differences.{offset_of_another}
@@ -33,13 +33,9 @@ misfit_cause c stay off asked (misfit.NotBehind frame) = None
 abbrev pub by_misfit : Cluster → BadWindow → Option Text → Option ℕ → Option Cause
 by_misfit c window off asked = misfit_cause c window.stay off asked window.why
 
--- the entry after which the client asked to go on was not due to the session
-abbrev pub other_session_of : List ℕ → ℕ → Option ℕ → Option Cause
-other_session_of due stay asked = option_and_then (offset_of_another due stay) asked
-
 -- of such a recovery: what the misfit says; the offset was another session's
 abbrev pub window_causes : Cluster → List StaySeen → List ℕ → BadWindow → List Cause
 window_causes c stays due window =
     held
     (by_misfit c window (offset_in (slice_get stays window.stay)) (asked_after c.stream (slice_get stays window.stay))
-    ∷ other_session_of due window.stay (asked_after c.stream (slice_get stays window.stay)) ∷ [])
+    ∷ offset_of_another due window.stay (asked_after c.stream (slice_get stays window.stay)) ∷ [])

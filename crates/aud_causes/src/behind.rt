@@ -1,13 +1,12 @@
 //! A node that took a session back while it was behind the break.
 ghost use Rattle.std.specs.Prelude.{◌≡◌};
-ghost use Rattle.std.specs.Option.{option_copied};
-ghost use Rattle.aud_causes.specs.Behind.{behind, first_of, last_of, last_reached, node_behind};
+ghost use Rattle.aud_causes.specs.Behind.{first_of, last_of, node_behind};
 
 use crate::cause::Cause;
 use crate::facts::Facts;
 use aud_cert::{Turn, turn_place};
 use aud_node::Logs;
-use aud_session_facts::RecordPlace;
+use aud_session_facts::{RecordPlace, ahead_of};
 
 /// Where the two frames stand in two stays, these match the turns, and the turn of the later one begins before the entry,
 /// which a turn before it had reached.
@@ -18,25 +17,7 @@ pub(crate) fn node_behind(logs: &Logs<'_>, turns: &[Turn<'_>], facts: Facts) -> 
         return None;
     }
     let turn = turns.get(facts.later)?;
-    let (before, _) = turns.split_at(facts.later);
-    let reached = last_reached(before, facts.parted.position)?;
-    behind(logs, reached, turn, facts.parted.position)
-}
-
-/// The last of the turns that reached this position.
-fn last_reached<'t, 'a>(turns: &'t [Turn<'a>], position: u64) -> Option<&'t Turn<'a>>
-    ensures { option_copied result ≡ last_reached position turns.now }
-{
-    turns.iter().rev().find(|turn| position <= turn.high)
-}
-
-/// The break of one turn, and the `back` of a later one, where that begins before this position.
-fn behind(logs: &Logs<'_>, before: &Turn<'_>, turn: &Turn<'_>, position: u64) -> Option<Cause>
-    ensures { result ≡ behind logs.now position before.now turn.now }
-{
-    if position <= turn.low {
-        return None;
-    }
+    let before = ahead_of(turns, facts.parted.position, facts.later)?;
     Some(Cause::NodeBehindBreak {
         broke: last_of(logs, before),
         back: first_of(logs, turn),

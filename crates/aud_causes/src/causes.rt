@@ -19,7 +19,7 @@ use aud_verdict::Verdict;
 use std::alloc::{AllocError, Global};
 
 /// What was noted of the taps, once for all sessions.
-#[derive(Debug, Drop)]
+#[derive(Drop)]
 pub struct Noted {
     /// Of a session whose verdict is `ORDER`: of each node that it was on and that is out of order the first record that
     /// is, in the order of the taps.

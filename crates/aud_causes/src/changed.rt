@@ -2,12 +2,12 @@
 ghost use Rattle.std.specs.Prelude.{◌≡◌, IfOk};
 ghost use Rattle.std.specs.List.{filter};
 ghost use Rattle.aud_session_facts.specs.Opened.{opened_in};
-ghost use Rattle.aud_causes.specs.Changed.{fits_with, fits_with_any, greatest, is_as_due, is_of_other, is_within, namespace_in, spans_with, stretch_of};
+ghost use Rattle.aud_causes.specs.Changed.{fits_with, fits_with_any, is_within, namespace_in, spans_with, stretch_of};
 
 use crate::at_break::are_same;
 use crate::next_change::next_change;
 use aud_cert::Turn;
-use aud_node::{Logs, Stream};
+use aud_node::Logs;
 use aud_rooms::{Span, due_of};
 use aud_session_facts::opened_in;
 use aud_tap::Text;
@@ -73,32 +73,28 @@ pub(crate) fn fits_with(
 {
     let stretch = stretch_of(logs, pid, turns, came, room, position);
     let changed = spans_with(alloc, spans, room, joined, stretch)?;
-    is_as_due(
-        alloc,
-        logs.stream(),
-        namespace_in(turns),
-        &changed,
-        stretch,
-        came,
-    )
-}
-
-/// Whether what came in the stretch, in the order in which it came, is what was due there by these spans.
-fn is_as_due(
-    alloc: Global,
-    stream: &Stream<'_>,
-    nsp: &str,
-    spans: &[Span<'_>],
-    stretch: Stretch,
-    came: &[u64],
-) -> Result<bool, AllocError>
-    ensures { IfOk result (λ is. is
-        ≡ is_as_due stream.now nsp.now spans.now stretch came.now) }
-{
     let within = within(alloc, came, stretch)?;
     let after = stretch.first.saturating_sub(1);
-    let due = due_of(alloc, spans, stream, nsp, after, stretch.last)?;
+    let stream = logs.stream();
+    let due = due_of(
+        alloc,
+        &changed,
+        stream,
+        namespace_in(turns),
+        after,
+        stretch.last,
+    )?;
     Ok(are_same(within.as_slice(), due.as_slice()))
+}
+
+/// Those of the positions that the stretch has.
+fn within(alloc: Global, came: &[u64], stretch: Stretch) -> Result<Vec<u64>, AllocError>
+    ensures { IfOk result (λ within. within.items ≡ filter (is_within stretch) came.now) }
+{
+    came.iter()
+        .copied()
+        .filter(|position| stretch.first <= *position && *position <= stretch.last)
+        .collect(alloc)
 }
 
 /// From the position on, up to the next change of the room that a log has, or to the end of what came.
@@ -112,7 +108,10 @@ fn stretch_of(
 ) -> Stretch
     ensures { result ≡ stretch_of logs.now pid.now turns.now came.now room.now position }
 {
-    let last = greatest(came);
+    let mut last = 0;
+    for other in came {
+        last = (*other).max(last);
+    }
     match next_change(logs, pid, turns, room, position) {
         Some(reached) => Stretch {
             first: position,
@@ -123,27 +122,6 @@ fn stretch_of(
             last,
         },
     }
-}
-
-/// The greatest of the positions; 0 where there are none.
-fn greatest(positions: &[u64]) -> u64
-    ensures { result ≡ greatest 0 positions.now }
-{
-    let mut last = 0;
-    for position in positions {
-        last = (*position).max(last);
-    }
-    last
-}
-
-/// Those of the positions that the stretch has.
-fn within(alloc: Global, came: &[u64], stretch: Stretch) -> Result<Vec<u64>, AllocError>
-    ensures { IfOk result (λ within. within.items ≡ filter (is_within stretch) came.now) }
-{
-    came.iter()
-        .copied()
-        .filter(|position| stretch.first <= *position && *position <= stretch.last)
-        .collect(alloc)
 }
 
 /// The rooms' spans, where the session holds this room over the stretch, if it `joined` it, or doesn't; they borrow the
@@ -158,7 +136,17 @@ fn spans_with<'s>(
     ensures { IfOk result (λ changed. changed.items
         ≡ spans_with spans.now room.now joined stretch) }
 {
-    let mut changed = others(alloc, spans, room)?;
+    let mut changed = Vec::new(alloc);
+    for span in spans {
+        let name = span.room.as_str();
+        if name != room {
+            changed.push(Span {
+                room: CowStr::Borrowed(name),
+                first: span.first,
+                last: span.last,
+            })?;
+        }
+    }
     if joined {
         changed.push(Span {
             room: CowStr::Borrowed(room),
@@ -167,24 +155,6 @@ fn spans_with<'s>(
         })?;
     }
     Ok(changed)
-}
-
-/// The spans of other rooms than this one.
-fn others<'s>(alloc: Global, spans: &'s [Span<'_>], room: &str) -> Result<Vec<Span<'s>>, AllocError>
-    ensures { IfOk result (λ others. others.items ≡ filter (is_of_other room.now) spans.now) }
-{
-    let mut others = Vec::new(alloc);
-    for span in spans {
-        let name = span.room.as_str();
-        if name != room {
-            others.push(Span {
-                room: CowStr::Borrowed(name),
-                first: span.first,
-                last: span.last,
-            })?;
-        }
-    }
-    Ok(others)
 }
 
 /// The namespace in which the session of these turns was opened.

@@ -1,12 +1,11 @@
 //! A session that is cleared up after its break.
-ghost use Rattle.std.specs.Prelude.{◌≡◌, ◌++◌, None, OnOk};
+ghost use Rattle.std.specs.Prelude.{◌≡◌, ◌++◌, OnOk};
 ghost use Rattle.std.specs.Option.{option_copied};
-ghost use Rattle.aud_node.specs.OwnRecords.{own_numbers};
-ghost use Rattle.aud_causes.specs.Cleared.{broke_by, cleared_after_break, cleared_at, cleared_on, first_cleared};
+ghost use Rattle.aud_causes.specs.Cleared.{broke_by, cleared_after_break, cleared_at, cleared_on};
 
 use crate::cause::Cause;
 use crate::list::push_some;
-use aud_node::{Logs, NodeLog};
+use aud_node::Logs;
 use aud_session_facts::RecordPlace;
 use aud_tap::NodeRec;
 use std::alloc::AllocError;
@@ -31,14 +30,7 @@ pub(crate) fn push_cleared(
 fn cleared_on(logs: &Logs<'_>, pid: &str, node: usize) -> Option<Cause>
     ensures { result ≡ cleared_on logs.now pid.now node }
 {
-    first_cleared(logs.node(node)?, node, pid)
-}
-
-/// The same in this log.
-fn first_cleared(log: &NodeLog<'_>, node: usize, pid: &str) -> Option<Cause>
-    ensures { result
-        ≡ first_cleared log.now.recs node None (own_numbers log.now.recs pid.now) }
-{
+    let log = logs.node(node)?;
     let mut broke = None;
     for number in log.own(pid) {
         let place = RecordPlace {

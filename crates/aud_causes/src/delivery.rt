@@ -1,9 +1,8 @@
 //! What a difference between what was received and what was due may come from.
 ghost use Rattle.std.specs.Prelude.{◌≡◌, ℕ, IfOk, List, map, option_map};
-ghost use Rattle.aud_check.specs.Difference.{has_position};
 ghost use Rattle.aud_maker.specs.Made.{IsMade};
 ghost use Rattle.aud_session_facts.specs.NotDue.{reason_of};
-ghost use Rattle.aud_causes.specs.Differences.{case_of, causes_by, difference_causes, doubled_causes, doubled_in, extra_causes, extra_in, frame_not_recorded, lost_causes, lost_in, offset_of_another, other_session_after, other_session_before, swapped_causes};
+ghost use Rattle.aud_causes.specs.Differences.{asked_past, case_of, causes_by, difference_causes, doubled_causes, doubled_in, extra_causes, extra_in, lost_causes, lost_in, offset_of_another, other_session_before, swapped_causes};
 
 use crate::at_break::{first_came, first_taken, rooms_at_break};
 use crate::behind::node_behind;
@@ -170,8 +169,7 @@ fn lost_causes(
         &[
             at_break,
             skipped_in_window(facts),
-            other_session_after(due, facts),
-            frame_not_recorded(due, facts),
+            asked_past(due, facts),
             is_taken_live(facts).then_some(Cause::LostLive { frame }),
             leave,
         ],
@@ -282,52 +280,35 @@ fn extra_of(
 fn other_session_before(due: &[u64], facts: Facts) -> Option<Cause>
     ensures { result ≡ other_session_before due.now facts }
 {
-    let after = facts.asked?;
-    if facts.parted.position <= after {
+    if facts.parted.position <= facts.asked? {
         return None;
     }
-    offset_of_another(due, facts.later, after)
+    offset_of_another(due, facts.later, facts.asked)
 }
 
-/// The same where it doesn't stand before that.
-fn other_session_after(due: &[u64], facts: Facts) -> Option<Cause>
-    ensures { result ≡ other_session_after due.now facts }
+/// Where the client asked in the later stay to go on after the entry in question, or one after it: whether that was due to
+/// the session, or wasn't.
+fn asked_past(due: &[u64], facts: Facts) -> Option<Cause>
+    ensures { result ≡ asked_past due.now facts }
 {
+    let stay = facts.later;
     let after = facts.asked?;
     if after < facts.parted.position {
         return None;
     }
-    offset_of_another(due, facts.later, after)
-}
-
-/// Where the client asked in the later stay to go on after an entry that was due to the session, and is the one in question
-/// or comes after it.
-fn frame_not_recorded(due: &[u64], facts: Facts) -> Option<Cause>
-    ensures { result ≡ frame_not_recorded due.now facts }
-{
-    let after = facts.asked?;
-    if after < facts.parted.position || !has_position(due, after) {
-        return None;
-    }
-    Some(Cause::FrameNotRecorded {
-        stay: facts.later,
-        after,
-    })
-}
-
-/// Where the entry after which the client asked to go on was not due to the session.
-pub(crate) fn offset_of_another(due: &[u64], stay: usize, after: u64) -> Option<Cause>
-    ensures { result ≡ offset_of_another due.now stay after }
-{
-    if has_position(due, after) {
-        return None;
+    if due.contains(&after) {
+        return Some(Cause::FrameNotRecorded { stay, after });
     }
     Some(Cause::OffsetOfAnotherSession { stay, after })
 }
 
-/// Whether the position is one of these.
-fn has_position(positions: &[u64], position: u64) -> bool
-    ensures { result ≡ has_position positions.now position }
+/// Where the entry after which the client asked to go on, if it did, was not due to the session.
+pub(crate) fn offset_of_another(due: &[u64], stay: usize, asked: Option<u64>) -> Option<Cause>
+    ensures { result ≡ offset_of_another due.now stay asked }
 {
-    positions.contains(&position)
+    let after = asked?;
+    if due.contains(&after) {
+        return None;
+    }
+    Some(Cause::OffsetOfAnotherSession { stay, after })
 }

@@ -3,7 +3,7 @@ ghost use Rattle.std.specs.Prelude.{◌≡◌, IfOk, map, option_map};
 ghost use Rattle.std.specs.Option.{option_copied};
 ghost use Rattle.aud_cert.specs.Certificate.{turn_at};
 ghost use Rattle.aud_session_facts.specs.NotDue.{reason_of};
-ghost use Rattle.aud_causes.specs.Extra.{before_birth, change_missing, extra_live, first_left, goes_on, late_leave, left_before, log_ended_early, reached_at, rooms_named, sent_after_end};
+ghost use Rattle.aud_causes.specs.Extra.{before_birth, change_missing, extra_live, first_left, goes_on, late_leave, log_ended_early, reached_at, rooms_named, sent_after_end};
 
 use crate::behind::{first_of, last_of};
 use crate::cause::Cause;
@@ -105,32 +105,16 @@ pub(crate) fn first_left(
         (map (turn_at logs.now) turns.now) reach rooms.now }
 {
     for room in rooms {
-        if let Some(place) = left_before(logs, pid, turns, reach, room.as_str()) {
-            return Some(place);
+        if let Some(change) = last_change_of(logs, pid, turns, reach, room.as_str()) {
+            if !change.joined {
+                return Some(RecordPlace {
+                    node: change.node,
+                    number: change.number,
+                });
+            }
         }
     }
     None
-}
-
-/// The last record, before the reach, by which the session changed the room, if it left it there.
-fn left_before(
-    logs: &Logs<'_>,
-    pid: &str,
-    turns: &[Turn<'_>],
-    reach: Reach,
-    room: &str,
-) -> Option<RecordPlace>
-    ensures { result ≡ left_before logs.now pid.now
-        (map (turn_at logs.now) turns.now) reach room.now }
-{
-    let change = last_change_of(logs, pid, turns, reach, room)?;
-    if change.joined {
-        return None;
-    }
-    Some(RecordPlace {
-        node: change.node,
-        number: change.number,
-    })
 }
 
 /// The rooms that the entry is for, if it is an event.

@@ -1,14 +1,13 @@
 //! What the causes of a difference go by.
-ghost use Rattle.std.specs.Prelude.{◌≡◌, Some, length, map, slice_get};
-ghost use Rattle.std.specs.List.{list_all};
+ghost use Rattle.std.specs.Prelude.{◌≡◌, map, slice_get};
 ghost use Rattle.std.specs.Option.{option_copied};
-ghost use Rattle.aud_client.specs.Received.{is_recovered};
-ghost use Rattle.aud_causes.specs.Facts.{ask_in_reach, asked_after, begin_as_turns, earlier_stay, facts_of, is_recovery, is_up_to, low_of_turn, parted_at, replay_of, stay_of_frame, stays_match};
+ghost use Rattle.aud_causes.specs.Facts.{earlier_stay, facts_of, is_recovery, parted_at, replay_of};
 
 use aud_cert::Turn;
 use aud_check::Difference;
 use aud_client::Stay;
 use aud_node::Stream;
+use aud_session_facts::{asked_after, stay_of_frame, stays_match};
 
 /// The entry at which what was received parts from what was due, and two frames: of an entry that came twice both; of
 /// one that came late the one in its place, and its own; of one that was lost the one in its place; of one that was not
@@ -55,80 +54,65 @@ pub(crate) fn facts_of(
 ) -> Facts
     ensures { result ≡ facts_of stream.now turns.now (map (λ stay. stay.now) stays.now) difference }
 {
-    let parted = parted_at(difference);
+    let (parted, earlier) = parted_at(stays, difference);
     let later = stay_of_frame(stays, parted.again);
     let asked = asked_after(stream, stays, later);
     let matched = stays_match(stream, turns, stays);
-    let low = low_of_turn(matched, turns, later);
     Facts {
         parted,
         matched,
-        earlier: earlier_stay(stays, difference),
+        earlier,
         later,
         recovered: is_recovery(stays, later),
         asked,
-        replay: replay_of(asked, low),
+        replay: replay_of(matched, turns, later, asked),
     }
 }
 
-/// The entry and the frames of the difference.
-fn parted_at(difference: Difference) -> Parted
-    ensures { result ≡ parted_at difference }
+/// The entry and the frames of the difference; and the number of the stay that the later one is held against: that of the
+/// first frame; the session's first of an entry that was not due.
+fn parted_at(stays: &[&Stay<'_>], difference: Difference) -> (Parted, usize)
+    ensures parted { result.0 ≡ parted_at difference }
+    ensures earlier { result.1 ≡ earlier_stay (map (λ stay. stay.now) stays.now) difference }
 {
     match difference {
-        Difference::Extra { frame, position } => Parted {
-            position,
-            first: 0,
-            again: frame,
-        },
+        Difference::Extra { frame, position } => {
+            let parted = Parted {
+                position,
+                first: 0,
+                again: frame,
+            };
+            (parted, 0)
+        }
         Difference::Doubled {
             first,
             again,
             position,
-        } => Parted {
-            position,
-            first,
-            again,
-        },
-        Difference::Swapped { frame, due, later } => Parted {
-            position: due,
-            first: frame,
-            again: later,
-        },
-        Difference::Lost { frame, due } => Parted {
-            position: due,
-            first: frame,
-            again: frame,
-        },
-    }
-}
-
-/// The number of the stay that the later one is held against: that of the first frame; the session's first of an entry
-/// that was not due.
-fn earlier_stay(stays: &[&Stay<'_>], difference: Difference) -> usize
-    ensures { result ≡ earlier_stay (map (λ stay. stay.now) stays.now) difference }
-{
-    match difference {
-        Difference::Extra { .. } => 0,
-        Difference::Doubled { first, .. } => stay_of_frame(stays, first),
-        Difference::Swapped { frame, .. } => stay_of_frame(stays, frame),
-        Difference::Lost { frame, .. } => stay_of_frame(stays, frame),
-    }
-}
-
-/// The number of the stay in which the frame stands; that of all stays where they don't have so many frames.
-fn stay_of_frame(stays: &[&Stay<'_>], frame: usize) -> usize
-    ensures { result ≡ stay_of_frame (map (λ stay. stay.now) stays.now) 0 frame }
-{
-    let mut left = frame;
-    for (number, stay) in stays.iter().enumerate() {
-        let count = stay.frames.len();
-        if left < count {
-            return number;
+        } => {
+            let parted = Parted {
+                position,
+                first,
+                again,
+            };
+            (parted, stay_of_frame(stays, first))
         }
-        left -= count;
+        Difference::Swapped { frame, due, later } => {
+            let parted = Parted {
+                position: due,
+                first: frame,
+                again: later,
+            };
+            (parted, stay_of_frame(stays, frame))
+        }
+        Difference::Lost { frame, due } => {
+            let parted = Parted {
+                position: due,
+                first: frame,
+                again: frame,
+            };
+            (parted, stay_of_frame(stays, frame))
+        }
     }
-    stays.len()
 }
 
 /// The stay with this number.
@@ -148,95 +132,16 @@ pub(crate) fn is_recovery(stays: &[&Stay<'_>], number: usize) -> bool
     }
 }
 
-/// The position after which the client asked to go on in the stay with this number, if that is a recovery.
-pub(crate) fn asked_after(stream: &Stream<'_>, stays: &[&Stay<'_>], number: usize) -> Option<u64>
-    ensures { result ≡ asked_after stream.now
-        (slice_get (map (λ stay. stay.now) stays.now) number) }
-{
-    let stay = stay_at(stays, number)?;
-    if !stay.is_recovered() {
-        return None;
-    }
-    let asked = stay.asked.as_ref()?;
-    stream.position(asked.offset.as_ref()?.as_str())
-}
-
-/// The cursor of the node at the begin of the turn of the stay with this number, where the stays match the turns.
-fn low_of_turn(matched: bool, turns: &[Turn<'_>], number: usize) -> Option<u64>
-    ensures { result ≡ low_of_turn matched turns.now number }
+/// What the node had to send again in the stay with this number, where the client asked to go on after this position: that
+/// is known where the stays match the turns.
+fn replay_of(matched: bool, turns: &[Turn<'_>], number: usize, asked: Option<u64>) -> Option<Replay>
+    ensures { result ≡ replay_of matched turns.now number asked }
 {
     if !matched {
         return None;
     }
-    let turn = turns.get(number)?;
-    Some(turn.low)
-}
-
-/// Whether the stays match the turns one by one: there are as many, they begin as turns do, and each asks in reach.
-fn stays_match(stream: &Stream<'_>, turns: &[Turn<'_>], stays: &[&Stay<'_>]) -> bool
-    ensures { result ≡ stays_match stream.now turns.now (map (λ stay. stay.now) stays.now) }
-{
-    if turns.len() != stays.len() || !begin_as_turns(stays) {
-        return false;
-    }
-    ask_in_reach(stream, turns, stays)
-}
-
-/// Whether the first of these stays did not ask for the session, and each later one did.
-fn begin_as_turns(stays: &[&Stay<'_>]) -> bool
-    ensures { result ≡ begin_as_turns (map (λ stay. stay.now) stays.now) }
-{
-    let Some((first, later)) = stays.split_first() else {
-        return false;
-    };
-    if (*first).is_recovered() {
-        return false;
-    }
-    are_recovered(later)
-}
-
-fn are_recovered(stays: &[&Stay<'_>]) -> bool
-    ensures { result ≡ list_all is_recovered (map (λ stay. stay.now) stays.now) }
-{
-    for stay in stays {
-        if !(*stay).is_recovered() {
-            return false;
-        }
-    }
-    true
-}
-
-/// Whether in each stay of these turns the client asked to go on after no entry that the turns before had not reached.
-fn ask_in_reach(stream: &Stream<'_>, turns: &[Turn<'_>], stays: &[&Stay<'_>]) -> bool
-    ensures { result
-        ≡ ask_in_reach stream.now (map (λ stay. stay.now) stays.now) 0 0 turns.now }
-{
-    let mut high = 0;
-    for (number, turn) in turns.iter().enumerate() {
-        if !is_up_to(high, asked_after(stream, stays, number)) {
-            return false;
-        }
-        high = turn.high.max(high);
-    }
-    true
-}
-
-/// Whether the client asked to go on after no entry past this position.
-fn is_up_to(high: u64, after: Option<u64>) -> bool
-    ensures { result ≡ is_up_to high after }
-{
-    match after {
-        Some(after) => after <= high,
-        None => true,
-    }
-}
-
-/// What was to be replayed, where both ends are known.
-fn replay_of(asked: Option<u64>, low: Option<u64>) -> Option<Replay>
-    ensures { result ≡ replay_of asked low }
-{
     Some(Replay {
         after: asked?,
-        low: low?,
+        low: turns.get(number)?.low,
     })
 }

@@ -8,18 +8,18 @@ ghost use Rattle.aud_causes.specs.Records.{place_of};
 use crate::cause::Cause;
 use crate::causes::place_of;
 use crate::lines::lines_at;
-use crate::record_at::records_in;
+use crate::shown::shown_of;
 use crate::state::{has_one_other, state_among};
-use crate::table::row_of;
 use crate::texts::push_texts;
 use crate::why::filled;
+use crate::words::words_of;
 use aud_client::Recording;
 use aud_explanation::CauseState;
 use aud_rows::{ClientPlaces, Sheet};
 use std::alloc::{AllocError, Global};
 
 /// What a fault may come from, as it is told.
-#[derive(Debug, Drop)]
+#[derive(Drop)]
 pub struct CauseFound {
     /// The name of the cause, for scripts: lower-case words joined by `-`.
     pub id: &'static str,
@@ -69,15 +69,16 @@ fn shown_cause(
         ≡ shown_cause sheet.now.recording.now sheet.now.lines.now
         (place_of (option_copied tap.entry)) numbers.now state cause) }
 {
-    let row = row_of(cause);
-    let lines = lines_at(alloc, sheet, tap, numbers, &records_in(row.records))?;
+    let words = words_of(cause);
+    let shown = shown_of(cause);
+    let lines = lines_at(alloc, sheet, tap, numbers, &shown.records)?;
     let why = why_told(alloc, sheet.recording, place_of(tap), numbers, cause)?;
     Ok(CauseFound {
-        id: row.id,
+        id: words.id,
         state,
         lines,
         why,
-        todo: row.todo,
+        todo: words.todo,
     })
 }
 
@@ -92,8 +93,9 @@ fn why_told(
     ensures { IfOk result (λ why. string_bytes why
         ≡ why_told recording.now client numbers.now cause) }
 {
-    let row = row_of(cause);
-    let mut why = filled(alloc, recording.logs(), row.why, &row.figures)?;
+    let words = words_of(cause);
+    let shown = shown_of(cause);
+    let mut why = filled(alloc, recording.logs(), words.why, &shown.figures)?;
     push_texts(&mut why, recording, client, numbers, cause)?;
     Ok(why)
 }

@@ -1,21 +1,21 @@
 //! What a fault may come from of a session that has a certificate.
-ghost use Rattle.std.specs.Prelude.{◌≡◌, IfOk, map};
+ghost use Rattle.std.specs.Prelude.{◌≡◌, IfOk};
 ghost use Rattle.aud_maker.specs.Made.{IsMade};
 ghost use Rattle.aud_causes.specs.Differences.{case_of};
-ghost use Rattle.aud_causes.specs.Judged.{causes_found, judged_causes, names_causes, orphan_at};
+ghost use Rattle.aud_causes.specs.Judged.{causes_found, judged_causes};
 
 use crate::cause::Cause;
 use crate::contents::content_causes;
 use crate::delivery::difference_causes;
 use crate::list::held;
-use crate::names::named_causes;
+use crate::names::names_causes;
 use crate::no_packet::no_packet_in;
-use crate::orphans::orphan_causes;
+use crate::orphans::orphan_at;
 use crate::window::window_causes;
-use aud_cert::{Fault, Turn};
+use aud_cert::Fault;
 use aud_check::Finding;
-use aud_client::{Recording, Stay};
-use aud_session_facts::{Account, opened_in};
+use aud_client::Recording;
+use aud_session_facts::Account;
 use std::alloc::{AllocError, Global};
 
 /// The causes of such a fault. These are the numbers of the session's stays in its client's tap; where that has events
@@ -70,35 +70,5 @@ fn causes_found(
             window_causes(alloc, logs, &account.stays, &account.due, window)
         }
         _ => Ok(Vec::new(alloc)),
-    }
-}
-
-/// What differs between the session's `open` and the replies that name it, where these are its turns and stays.
-fn names_causes(
-    alloc: Global,
-    turns: &[Turn<'_>],
-    stays: &[&Stay<'_>],
-) -> Result<Vec<Cause>, AllocError>
-    ensures { IfOk result (λ found. found.items
-        ≡ names_causes turns.now (map (λ stay. stay.now) stays.now)) }
-{
-    match opened_in(turns) {
-        Some(opened) => named_causes(alloc, stays, opened.sid, opened.nsp),
-        None => Ok(Vec::new(alloc)),
-    }
-}
-
-/// The causes of events in the stay with this number, if there is one, of the client's tap at this place.
-fn orphan_at(
-    alloc: Global,
-    recording: &Recording<'_>,
-    client: usize,
-    orphan: Option<usize>,
-) -> Result<Vec<Cause>, AllocError>
-    ensures { IfOk result (λ found. found.items ≡ orphan_at recording.now client orphan) }
-{
-    match orphan {
-        Some(number) => orphan_causes(alloc, recording, client, number),
-        None => Ok(Vec::new(alloc)),
     }
 }

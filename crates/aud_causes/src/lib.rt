@@ -53,8 +53,8 @@ mod record_at;
 mod recorded;
 mod refusal;
 mod same_json;
+mod shown;
 mod state;
-mod table;
 mod taken_back;
 mod texts;
 mod turns;
@@ -62,6 +62,7 @@ mod twice;
 mod unrecorded;
 mod why;
 mod window;
+mod words;
 
 pub use candidates::{refuted, refuted_of_refusal};
 pub use causes::{Noted, causes_of};

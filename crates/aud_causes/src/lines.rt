@@ -5,7 +5,7 @@ ghost use Rattle.aud_rows.specs.ClientPlaces.{AreOf};
 ghost use Rattle.aud_rows.specs.Seen.{row_seen};
 ghost use Rattle.aud_rows.specs.StayRows.{stays_at};
 ghost use Rattle.aud_session_facts.specs.FramePlaces.{frame_at};
-ghost use Rattle.aud_causes.specs.Records.{client_row, line_at, lines_at, node_row_of, place_of};
+ghost use Rattle.aud_causes.specs.Records.{client_row, line_at, lines_at, place_of};
 
 use crate::list::push_some;
 use crate::record_at::RecordAt;
@@ -48,20 +48,12 @@ fn line_at(
         (place_of (option_copied tap.entry)) numbers.now) at }
 {
     let at = at?;
-    match tap {
-        Some(tap) => Some(client_row(sheet, tap, numbers, at)?.line),
-        None => Some(node_row_of(sheet, at)?.line),
-    }
-}
-
-/// The row of a node's record.
-fn node_row_of<'r>(sheet: &Sheet<'r, '_>, at: RecordAt) -> Option<Row<'r>>
-    ensures { option_map row_seen result
-        ≡ node_row_of sheet.now.recording.now sheet.now.lines.now at }
-{
-    match at {
-        RecordAt::Node(place) => sheet.node_row(place.node, place.number, Role::Fault),
-        _ => None,
+    match (tap, at) {
+        (Some(tap), _) => Some(client_row(sheet, tap, numbers, at)?.line),
+        (None, RecordAt::Node(place)) => {
+            Some(sheet.node_row(place.node, place.number, Role::Fault)?.line)
+        }
+        (None, _) => None,
     }
 }
 

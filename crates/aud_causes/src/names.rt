@@ -1,15 +1,16 @@
 //! What a fault of a client's tap may come from.
 ghost use Rattle.std.specs.Prelude.{◌≡◌, IfOk, length, map};
-ghost use Rattle.aud_check.specs.NamedStays.{has_sid};
 ghost use Rattle.aud_client.specs.Received.{transcript_at};
 ghost use Rattle.aud_client.specs.Replies.{naming_places};
-ghost use Rattle.aud_causes.specs.Names.{client_causes, has_unanswered, has_unnamed, is_unanswered, named_causes, namespace_differs, reply_missing, sid_differs, unnamed_causes, unnamed_from};
+ghost use Rattle.aud_causes.specs.Names.{client_causes, has_unanswered, has_unnamed, is_unanswered, names_causes, namespace_differs, reply_missing, sid_differs, unnamed_from};
 
 use crate::bare::tap_without_packets;
 use crate::cause::Cause;
 use crate::list::held;
 use crate::orphans::{is_disconnect, last_of_stay};
-use aud_client::{Recording, Reply, Stay};
+use aud_cert::Turn;
+use aud_client::{Recording, Stay};
+use aud_session_facts::opened_in;
 use aud_tap::Tap;
 use std::alloc::{AllocError, Global};
 
@@ -26,25 +27,16 @@ pub(crate) fn client_causes(
         (length (naming_places recording.now.taps pid.now))) }
 {
     match recording.naming(pid).len() {
-        0 => unnamed_causes(alloc, recording, pid),
+        0 => {
+            let bare = tap_without_packets(alloc, recording.logs(), pid)?;
+            held(
+                alloc,
+                &[Some(Cause::NoClientTap), reply_missing(recording), bare],
+            )
+        }
         1 => Ok(Vec::new(alloc)),
         taps => held(alloc, &[Some(Cause::TwoTaps { taps })]),
     }
-}
-
-/// The same where none does.
-fn unnamed_causes(
-    alloc: Global,
-    recording: &Recording<'_>,
-    pid: &str,
-) -> Result<Vec<Cause>, AllocError>
-    ensures { IfOk result (λ found. found.items ≡ unnamed_causes recording.now pid.now) }
-{
-    let bare = tap_without_packets(alloc, recording.logs(), pid)?;
-    held(
-        alloc,
-        &[Some(Cause::NoClientTap), reply_missing(recording), bare],
-    )
 }
 
 /// Where a client's tap has a CONNECT or events of no known session: the first such tap.
@@ -104,21 +96,26 @@ fn is_unanswered(recording: &Recording<'_>, client: usize, number: usize, stay: 
     stay.asked.is_some() || !is_disconnect(last_of_stay(recording, client, number))
 }
 
-/// What differs between the replies in these stays, which name the session, and the session's `open`, which has this sid
-/// and namespace.
-pub(crate) fn named_causes(
+/// What differs between the replies in these stays, which name the session, and the session's `open`, where these are its
+/// turns.
+pub(crate) fn names_causes(
     alloc: Global,
+    turns: &[Turn<'_>],
     stays: &[&Stay<'_>],
-    sid: &str,
-    nsp: &str,
 ) -> Result<Vec<Cause>, AllocError>
     ensures { IfOk result (λ found. found.items
-        ≡ named_causes sid.now nsp.now (map (λ stay. stay.now) stays.now)) }
+        ≡ names_causes turns.now (map (λ stay. stay.now) stays.now)) }
 {
-    held(
-        alloc,
-        &[sid_differs(stays, sid), namespace_differs(stays, nsp)],
-    )
+    match opened_in(turns) {
+        Some(opened) => held(
+            alloc,
+            &[
+                sid_differs(stays, opened.sid),
+                namespace_differs(stays, opened.nsp),
+            ],
+        ),
+        None => Ok(Vec::new(alloc)),
+    }
 }
 
 /// Where a reply has another sid: the first such one.
@@ -126,8 +123,9 @@ fn sid_differs(stays: &[&Stay<'_>], sid: &str) -> Option<Cause>
     ensures { result ≡ sid_differs sid.now (map (λ stay. stay.now) stays.now) }
 {
     for (stay, named) in stays.iter().enumerate() {
-        if !has_sid(&named.reply, sid) {
-            return Some(Cause::SidDiffers { stay });
+        match &named.reply {
+            Some(reply) if reply.sid.as_str() == sid => {}
+            _ => return Some(Cause::SidDiffers { stay }),
         }
     }
     None
@@ -143,14 +141,4 @@ fn namespace_differs(stays: &[&Stay<'_>], nsp: &str) -> Option<Cause>
         }
     }
     None
-}
-
-/// Whether there is a reply, and it has this sid.
-fn has_sid(reply: &Option<Reply>, sid: &str) -> bool
-    ensures { result ≡ has_sid sid.now reply.now }
-{
-    match reply {
-        Some(reply) => reply.sid.as_str() == sid,
-        None => false,
-    }
 }

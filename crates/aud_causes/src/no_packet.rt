@@ -1,7 +1,5 @@
 //! Why a record of the client's tap is no packet, and what to do about it.
 ghost use Rattle.std.specs.Prelude.{◌≡◌, IfOk, flat_map, option_to_list};
-ghost use Rattle.std.specs.Option.{option_and_then};
-ghost use Rattle.aud_client.specs.Received.{TranscriptSeen, transcript_at};
 ghost use Rattle.aud_causes.specs.NoPacket.{advice, json_advice, no_packet_figures, no_packet_in, no_packet_words, refusal_advice};
 
 use crate::why::Figure;
@@ -22,18 +20,13 @@ pub(crate) fn no_packet_in(
     let Some(recs) = recording.logs().client(client) else {
         return Ok(None);
     };
-    match bad_in(recording, client) {
+    let Some(read) = recording.client(client) else {
+        return Ok(None);
+    };
+    match read.transcript().bad {
         Some(number) => no_packet_at(alloc, recs, number),
         None => Ok(None),
     }
-}
-
-/// The number of the first record of the client's tap at this place that is no packet.
-fn bad_in(recording: &Recording<'_>, client: usize) -> Option<usize>
-    ensures { result
-        ≡ option_and_then (λ (t : TranscriptSeen). t.bad) (transcript_at recording.now client) }
-{
-    recording.client(client)?.transcript().bad
 }
 
 /// What happened, in words.

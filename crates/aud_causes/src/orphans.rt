@@ -2,7 +2,7 @@
 ghost use Rattle.std.specs.Prelude.{◌≡◌, ◌++◌, IfOk, None, OnOk, slice_get};
 ghost use Rattle.std.specs.Option.{option_copied};
 ghost use Rattle.aud_session_facts.specs.Recoveries.{stays_at};
-ghost use Rattle.aud_causes.specs.Orphans.{answered_causes, began_late, causes_of_before, is_asked_first, is_disconnect, last_beside, last_of_stay, next_of_stay, orphan_causes, replied_causes, reply_lost, stay_before, unreplied_causes, without_reply};
+ghost use Rattle.aud_causes.specs.Orphans.{began_late, causes_of_before, is_asked_first, is_disconnect, last_beside, last_of_stay, next_of_stay, orphan_at, replied_causes, reply_lost, stay_before, unreplied_causes, without_reply};
 
 use crate::bodies::{client_record, places_at};
 use crate::cause::Cause;
@@ -11,16 +11,19 @@ use aud_client::{Recording, Stay};
 use aud_tap::ClientRec;
 use std::alloc::{AllocError, Global};
 
-/// The causes of events in the stay with this number of the client's tap at this place, whose reply names nobody. It
-/// costs the stays before it.
-pub(crate) fn orphan_causes(
+/// The causes of events in the stay with this number, if there is one, of the client's tap at this place: its reply names
+/// nobody, or there is none. It costs the stays before it.
+pub(crate) fn orphan_at(
     alloc: Global,
     recording: &Recording<'_>,
     client: usize,
-    number: usize,
+    orphan: Option<usize>,
 ) -> Result<Vec<Cause>, AllocError>
-    ensures { IfOk result (λ found. found.items ≡ orphan_causes recording.now client number) }
+    ensures { IfOk result (λ found. found.items ≡ orphan_at recording.now client orphan) }
 {
+    let Some(number) = orphan else {
+        return Ok(Vec::new(alloc));
+    };
     match stay_in(recording, client, number) {
         Some(stay) => replied_causes(alloc, recording, client, number, stay),
         None => Ok(Vec::new(alloc)),
@@ -210,13 +213,24 @@ fn push_before(
         };
         return push_some(found, Some(cause));
     }
-    match stay_in(recording, client, before) {
-        Some(stay) => {
-            let asked_first = is_asked_first(recording, client, before);
-            push_answered(found, number, before, stay, asked_first)
-        }
-        None => Ok(()),
+    let Some(stay) = stay_in(recording, client, before) else {
+        return Ok(());
+    };
+    if stay.reply.is_none() {
+        return Ok(());
     }
+    let asked_first = is_asked_first(recording, client, before);
+    let late = stay.asked.is_none() && !asked_first;
+    let out = Cause::OutAfterAnswer {
+        before,
+        stay: number,
+    };
+    push_some(found, late.then_some(out))?;
+    let second = Cause::SecondConnect {
+        before,
+        stay: number,
+    };
+    push_some(found, Some(second))
 }
 
 /// The last record of the stay with this number of the client's tap at this place.
@@ -241,32 +255,4 @@ pub(crate) fn is_disconnect(rec: Option<&ClientRec>) -> bool
         }
         _ => false,
     }
-}
-
-/// Adds the causes where this is the stay before, if it was answered. The flag says whether it begins with the
-/// client's CONNECT.
-fn push_answered(
-    found: &mut Vec<Cause>,
-    number: usize,
-    before: usize,
-    stay: &Stay<'_>,
-    asked_first: bool,
-) -> Result<(), AllocError>
-    ensures { OnOk result (found.new.items
-        ≡ found.old.items ++ answered_causes number before stay.now asked_first) }
-{
-    if stay.reply.is_none() {
-        return Ok(());
-    }
-    let late = stay.asked.is_none() && !asked_first;
-    let out = Cause::OutAfterAnswer {
-        before,
-        stay: number,
-    };
-    push_some(found, late.then_some(out))?;
-    let second = Cause::SecondConnect {
-        before,
-        stay: number,
-    };
-    push_some(found, Some(second))
 }

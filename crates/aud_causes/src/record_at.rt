@@ -1,6 +1,4 @@
 //! The records that show a cause.
-ghost use Rattle.std.specs.Prelude.{◌≡◌, flat_map, option_to_list};
-ghost use Rattle.aud_causes.specs.Table.{records_in};
 
 use aud_session_facts::RecordPlace;
 
@@ -19,30 +17,4 @@ pub enum RecordAt {
     First(usize),
     /// The tap's first record that is no packet.
     Bad,
-}
-
-/// The records that show a cause, in the order in which they are told.
-#[derive(Clone, Copy, Drop)]
-pub enum Records {
-    Nothing,
-    One(RecordAt),
-    Two(RecordAt, RecordAt),
-    Four(RecordAt, RecordAt, RecordAt, RecordAt),
-}
-
-/// Each of these records.
-pub(crate) fn records_in(records: Records) -> [Option<RecordAt>; 4]
-    ensures { flat_map option_to_list result ≡ records_in records }
-{
-    match records {
-        Records::Nothing => [None; 4],
-        Records::One(first) => [Some(first), None, None, None],
-        Records::Two(first, second) => [Some(first), Some(second), None, None],
-        Records::Four(first, second, third, fourth) => [
-            Some(first),
-            Some(second),
-            Some(third),
-            Some(fourth),
-        ],
-    }
 }

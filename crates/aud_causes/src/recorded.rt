@@ -1,8 +1,7 @@
 //! What a fault of the recording may come from: one for which the session has no certificate.
 ghost use Rattle.std.specs.Prelude.{◌≡◌, IfOk, map};
 ghost use Rattle.std.specs.List.{list_any};
-ghost use Rattle.std.specs.Option.{option_copied};
-ghost use Rattle.aud_causes.specs.Recorded.{AreRecordedCauses, causes_of_turns, first_on, first_own, has_first_turn, is_node, is_of_first_turn, no_log_causes, open_not_recorded, opener_not_tapped, order_causes, stays_of_client};
+ghost use Rattle.aud_causes.specs.Recorded.{AreRecordedCauses, causes_of_turns, first_on, first_own, has_first_turn, is_node, is_of_first_turn, no_log_causes, open_not_recorded, order_causes, stays_of_client};
 
 use crate::cause::Cause;
 use crate::list::{held, push_some};
@@ -44,7 +43,11 @@ fn no_log_causes(alloc: Global, logs: &Logs<'_>, pid: &str) -> Result<Vec<Cause>
     ensures { IfOk result (λ found. found.items ≡ no_log_causes logs.now pid.now) }
 {
     let open = open_not_recorded(logs, first_own(logs, pid));
-    held(alloc, &[open, opener_not_tapped(logs, pid)])
+    let tapped = has_first_turn(logs, pid, logs.nodes_of(pid));
+    held(
+        alloc,
+        &[open, (!tapped).then_some(Cause::NodeNotTapped { turn: 0 })],
+    )
 }
 
 /// Where this is the session's first record on a node; or where it has none, and a node is tapped.
@@ -58,14 +61,12 @@ fn open_not_recorded(logs: &Logs<'_>, first: Option<RecordPlace>) -> Option<Caus
     }
 }
 
-/// Where no log has a record of the session's turn 0.
-fn opener_not_tapped(logs: &Logs<'_>, pid: &str) -> Option<Cause>
-    ensures { result ≡ opener_not_tapped logs.now pid.now }
+/// Whether one of the taps is a node's.
+fn has_node(taps: &[Tap]) -> bool
+    ensures { result ≡ list_any is_node taps.now }
 {
-    if has_first_turn(logs, pid, logs.nodes_of(pid)) {
-        return None;
-    }
-    Some(Cause::NodeNotTapped { turn: 0 })
+    taps.iter()
+        .any(|tap| matches!(tap.records, Records::Node(_)))
 }
 
 /// Whether the session's first record on one of these nodes is of its turn 0.
@@ -73,38 +74,28 @@ fn has_first_turn(logs: &Logs<'_>, pid: &str, nodes: &[usize]) -> bool
     ensures { result ≡ has_first_turn logs.now pid.now nodes.now }
 {
     for node in nodes {
-        if is_of_first_turn(first_on(logs, pid, *node)) {
+        if is_of_first_turn(logs, pid, *node) {
             return true;
         }
     }
     false
 }
 
-/// The session's first record in the log of this node.
-fn first_on<'a>(logs: &Logs<'a>, pid: &str, node: usize) -> Option<&'a NodeRec>
-    ensures { option_copied result ≡ first_on logs.now pid.now node }
+/// Whether the session's first record in the log of this node is of its turn 0.
+fn is_of_first_turn(logs: &Logs<'_>, pid: &str, node: usize) -> bool
+    ensures { result ≡ is_of_first_turn (first_on logs.now pid.now node) }
 {
-    let log = logs.node(node)?;
-    log.recs().get(*log.own(pid).first()?)
-}
-
-/// Whether the record, with which a log's records of a session begin, is of the session's turn 0.
-fn is_of_first_turn(rec: Option<&NodeRec>) -> bool
-    ensures { result ≡ is_of_first_turn (option_copied rec.entry) }
-{
-    match rec {
+    let Some(log) = logs.node(node) else {
+        return false;
+    };
+    let Some(number) = log.own(pid).first() else {
+        return false;
+    };
+    match log.recs().get(*number) {
         None | Some(NodeRec::Back { .. }) => false,
         Some(NodeRec::Broke { turn, .. }) => *turn == 0,
         Some(_) => true,
     }
-}
-
-/// Whether one of the taps is a node's.
-fn has_node(taps: &[Tap]) -> bool
-    ensures { result ≡ list_any is_node taps.now }
-{
-    taps.iter()
-        .any(|tap| matches!(tap.records, Records::Node(_)))
 }
 
 /// The session's first record on the first node that has any.

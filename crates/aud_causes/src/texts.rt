@@ -1,14 +1,13 @@
 //! Both texts of an event that isn't its entry, in the sentence of its cause.
 ghost use Rattle.std.specs.Prelude.{◌≡◌, ◌++◌, OnOk, string_bytes};
 ghost use Rattle.std.specs.Option.{option_and_then, option_copied};
-ghost use Rattle.aud_causes.specs.Texts.{apart_in, both_texts, frame_of, texts_of, texts_told};
+ghost use Rattle.aud_causes.specs.Texts.{apart_in, both_texts, frame_of, texts_told};
 
 use crate::cause::Cause;
 use crate::excerpt::push_excerpt;
 use crate::lines::frame_in;
 use aud_check::Part;
 use aud_client::{Frame, Recording};
-use aud_node::Stream;
 use aud_tap::StreamRec;
 use std::alloc::AllocError;
 
@@ -34,8 +33,13 @@ pub(crate) fn push_texts(
     let Some(apart) = apart_in(cause) else {
         return Ok(());
     };
-    let frame = frame_of(recording, client, numbers, apart.frame);
-    push_texts_of(out, recording.logs().stream(), frame, apart.at)
+    let Some(frame) = frame_of(recording, client, numbers, apart.frame) else {
+        return Ok(());
+    };
+    match recording.logs().stream().entry(frame.position) {
+        Some(StreamRec::Ev(event)) => push_both(out, frame.text(), event.text.as_str(), apart.at),
+        _ => Ok(()),
+    }
 }
 
 /// Where the cause says that texts part.
@@ -71,25 +75,7 @@ pub(crate) fn frame_of<'r, 'a>(
     stays.get(place.stay)?.frames.get(place.frame)
 }
 
-/// The same of this frame and its entry.
-fn push_texts_of(
-    out: &mut String,
-    stream: &Stream<'_>,
-    frame: Option<&Frame<'_>>,
-    at: usize,
-) -> Result<(), AllocError>
-    ensures { OnOk result (string_bytes out.new
-        ≡ string_bytes out.old ++ texts_of stream.now (option_copied frame.entry) at) }
-{
-    let Some(frame) = frame else {
-        return Ok(());
-    };
-    match stream.entry(frame.position) {
-        Some(StreamRec::Ev(event)) => push_both(out, frame.text(), event.text.as_str(), at),
-        _ => Ok(()),
-    }
-}
-
+/// Adds what both have around this byte.
 fn push_both(out: &mut String, came: &str, event: &str, at: usize) -> Result<(), AllocError>
     ensures { OnOk result (string_bytes out.new
         ≡ string_bytes out.old ++ both_texts came.now event.now at) }

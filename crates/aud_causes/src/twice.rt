@@ -1,6 +1,6 @@
 //! A turn for which two records take the session back.
 ghost use Rattle.std.specs.Prelude.{◌≡◌, ◌++◌, OnOk};
-ghost use Rattle.aud_causes.specs.Twice.{back_turn, causes_of_twice, is_as_often, is_written_again, open_with, opened_after, opened_twice, turn_not_stored, twice_at, twice_by, twice_causes};
+ghost use Rattle.aud_causes.specs.Twice.{back_turn, causes_of_twice, is_as_often, is_written_again, opened_twice, turn_not_stored, twice_at, twice_by, twice_causes};
 
 use crate::cause::Cause;
 use crate::last_turn::is_turn;
@@ -147,34 +147,17 @@ fn turn_not_stored(ended: &[bool], as_often: bool, twice: Twice) -> Option<Cause
 pub(crate) fn opened_twice(marks: &[TurnMark]) -> Option<Cause>
     ensures { result ≡ opened_twice marks.now }
 {
-    let mut found = None;
     let mut first = None;
     for mark in marks {
-        found = found.or(opened_after(first, *mark));
-        first = open_with(first, *mark);
+        if let Mark::Open = mark.mark {
+            if let Some(first) = first {
+                return Some(Cause::OpenedTwice {
+                    first,
+                    again: mark.place,
+                });
+            }
+            first = Some(mark.place);
+        }
     }
-    found
-}
-
-/// Where the record opens the session, and so did this one before it, if there is one.
-fn opened_after(first: Option<RecordPlace>, mark: TurnMark) -> Option<Cause>
-    ensures { result ≡ opened_after first mark }
-{
-    match mark.mark {
-        Mark::Open => Some(Cause::OpenedTwice {
-            first: first?,
-            again: mark.place,
-        }),
-        _ => None,
-    }
-}
-
-/// The last record so far that opens the session, after this record too.
-fn open_with(first: Option<RecordPlace>, mark: TurnMark) -> Option<RecordPlace>
-    ensures { result ≡ open_with first mark }
-{
-    match mark.mark {
-        Mark::Open => Some(mark.place),
-        _ => first,
-    }
+    None
 }

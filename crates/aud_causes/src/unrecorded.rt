@@ -1,6 +1,6 @@
 //! A recovery of which no log has the turn.
 ghost use Rattle.std.specs.Prelude.{◌≡◌, IfOk, map};
-ghost use Rattle.aud_causes.specs.Unrecorded.{past_turns, recovery_not_recorded};
+ghost use Rattle.aud_causes.specs.Unrecorded.{recovery_not_recorded};
 
 use crate::cause::Cause;
 use crate::facts::Facts;
@@ -10,7 +10,7 @@ use aud_client::Stay;
 use std::alloc::{AllocError, Global};
 
 /// Where the later frame came in a recovery, and the client was taken back more often in these stays than there are turns
-/// after the first. It costs the stays.
+/// after the first: the first recovery past so many. It costs the stays.
 pub(crate) fn recovery_not_recorded(
     alloc: Global,
     turns: &[Turn<'_>],
@@ -24,16 +24,13 @@ pub(crate) fn recovery_not_recorded(
         return Ok(None);
     }
     let came = recoveries(alloc, stays)?;
-    Ok(past_turns(turns.len().saturating_sub(1), &came))
-}
-
-/// The first of these recoveries past so many turns, if there is one.
-fn past_turns(turns: usize, came: &[usize]) -> Option<Cause>
-    ensures { result ≡ past_turns turns came.now }
-{
-    Some(Cause::RecoveryNotRecorded {
-        stay: *came.get(turns)?,
-        recoveries: came.len(),
-        turns,
-    })
+    let turns = turns.len().saturating_sub(1);
+    match came.get(turns) {
+        Some(stay) => Ok(Some(Cause::RecoveryNotRecorded {
+            stay: *stay,
+            recoveries: came.len(),
+            turns,
+        })),
+        None => Ok(None),
+    }
 }

@@ -1,16 +1,16 @@
 //! What a recovery that was asked for where it does not fit may come from.
 ghost use Rattle.std.specs.Prelude.{◌≡◌, IfOk, map, slice_get};
 ghost use Rattle.std.specs.Option.{option_copied};
-ghost use Rattle.aud_causes.specs.Windows.{by_misfit, offset_in, other_session_of, window_causes};
+ghost use Rattle.aud_causes.specs.Windows.{by_misfit, offset_in, window_causes};
 
 use crate::cause::Cause;
 use crate::delivery::offset_of_another;
-use crate::facts::asked_after;
 use crate::list::held;
 use crate::named_entries::is_named;
 use aud_check::{BadWindow, Misfit};
 use aud_client::Stay;
 use aud_node::Logs;
+use aud_session_facts::asked_after;
 use aud_tap::Text;
 use std::alloc::{AllocError, Global};
 
@@ -32,7 +32,7 @@ pub(crate) fn window_causes(
         alloc,
         &[
             by_misfit(logs, window, off, asked),
-            other_session_of(due, window.stay, asked),
+            offset_of_another(due, window.stay, asked),
         ],
     )
 }
@@ -68,11 +68,4 @@ fn by_misfit(
         }),
         Misfit::NotBehind { .. } => None,
     }
-}
-
-/// Where the entry after which the client asked to go on was not due to the session.
-fn other_session_of(due: &[u64], stay: usize, asked: Option<u64>) -> Option<Cause>
-    ensures { result ≡ other_session_of due.now stay asked }
-{
-    offset_of_another(due, stay, asked?)
 }

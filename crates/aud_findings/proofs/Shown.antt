@@ -1,5 +1,5 @@
 -- What is shown of a session by its account.
-use Rattle.std.proofs.Common.{◌≡◌, ℕ, Bool, true, false, cond, List, Option, Some, None, MatchOption, map, refl, sym, ap, subst, ◌∙◌, inl, inr, true≢false}
+use Rattle.std.proofs.Common.{◌≡◌, ◌++◌, ℕ, Bool, true, false, cond, List, Option, Some, None, MatchOption, map, refl, sym, ap, subst, ◌∙◌, inl, inr, true≢false}
 use Rattle.std.proofs.lemmas.Option.{none-some, same_Some}
 use Rattle.std.specs.Global.{Vec}
 use Rattle.aud_node.specs.Cluster.{Cluster}
@@ -32,6 +32,7 @@ use Rattle.aud_session_facts.specs.ShowsDifference.{ShowsDifference}
 use Rattle.aud_session_facts.specs.ShowsWindow.{ShowsWindow}
 use Rattle.aud_session_facts.proofs.Shows.{shows, shows-altered, shows-window}
 use Rattle.aud_verdict.specs.Session.{own_stays, due_to}
+use Rattle.aud_findings.specs.BesideRows.{beside_rows}
 use Rattle.aud_findings.specs.Evidence.{IsOfSession, ShowsOr, ShowsTold, TellsNone}
 use Rattle.aud_findings.specs.ShowsFound.{ShowsDelivery, ShowsFound}
 use Rattle.aud_findings.specs.Private.Known.{IsShownBy, finding_rows, found_rows}
@@ -80,25 +81,27 @@ module _ (pid : Text) (a : Account) (s : ShownSession) (known : IsShownBy s.shee
   session_is = λ i. record { c = here; lines = lines; turns = map (turn_at here) (known.turns i); client = known.client i; numbers = s.numbers.now }
 
   -- the rows of a difference, with those that tell how it comes
-  delivered : (difference : Difference) → IsDifference (positions_received (stays_of a)) a.due.items difference → ShowsDelivery here lines pid (finding_rows (session_of s) a.cert made (Delivery difference))
+  delivered : (difference : Difference) → IsDifference (positions_received (stays_of a)) a.due.items difference → ShowsDelivery here lines pid (finding_rows (session_of s) a.cert made (stays_of a) (Delivery difference))
   delivered difference shown =
       let is = difference_told here pid a.client (stays_of a) a.due.items known.own.is difference shown in
       record {
         cert = a.cert;
         made = made;
         names = known.own.made.is.pid_is;
+        session = known.own.is.session;
+        is_session = known.own.is.is_session;
         difference = difference;
         is_difference = is;
         shown = difference_rows (session_of s) difference;
         shows =
             subst (λ over. ShowsDifference here lines pid (difference_rows over difference)) (sym session_is)
             (shows here lines pid a.cert a.client (stays_of a) a.due.items known.once known.own.made known.own.is s.numbers.now known.numbers difference is);
-        are_its_rows = refl;
+        are_its_rows = ap (λ own. beside_rows here lines a.cert made own difference ++ difference_rows (session_of s) difference) known.own.is.stays_are;
       }
 
   -- the rows of what was found show it, where the fault is such a one
   finding_shown : (found : Finding) (fault : Fault) → IsFinding (case_at here a.client (stays_of a) a.due.items) found → is_as found fault ≡ true
-      → ShowsFound here lines pid fault (finding_rows (session_of s) a.cert made found)
+      → ShowsFound here lines pid fault (finding_rows (session_of s) a.cert made (stays_of a) found)
   finding_shown Frame fault shown is = absurd (true≢false (sym is))
   finding_shown Orphan fault shown is = absurd (true≢false (sym is))
   finding_shown (Content altered) (fault.Content off) shown is =
@@ -116,7 +119,7 @@ module _ (pid : Text) (a : Account) (s : ShownSession) (known : IsShownBy s.shee
   finding_shown (Window window) _ shown is = absurd (true≢false (sym is))
 
   -- so are those of what was found for the fault
-  pub found_told : (fault : Fault) (found : Finding) → found_for fault a.found ≡ Some found → (rows : List RowSeen) → rows ≡ finding_rows (session_of s) a.cert made found → ShowsFound here lines pid fault rows
+  pub found_told : (fault : Fault) (found : Finding) → found_for fault a.found ≡ Some found → (rows : List RowSeen) → rows ≡ finding_rows (session_of s) a.cert made (stays_of a) found → ShowsFound here lines pid fault rows
   found_told fault found is rows are =
       let (found_at, alike) = found_is fault a.found found is in
       let first : IsFirstFinding (case_at here a.client (stays_of a) a.due.items) found =

@@ -1,14 +1,18 @@
 -- Where the node of a turn was behind the one before it.
-use Rattle.std.specs.Prelude.{◌-◌, ◌&&◌, ℕ, Bool, false, List, [], length, Option, Some, None, nat_lt, nat_le, slice_get}
+use Rattle.std.specs.Prelude.{◌-◌, ◌&&◌, ℕ, Bool, false, List, [], length, Option, Some, None, if◌then◌else◌, nat_lt, nat_le, slice_get}
 use Rattle.std.specs.List.{find}
 use Rattle.std.specs.Option.{option_and_then}
+use Rattle.aud_tap.specs.declared.records.StreamRec.{StreamRec}
 use Rattle.aud_node.specs.Lists.{numbers_from}
 use Rattle.aud_node.specs.Cluster.{Cluster}
+use Rattle.aud_client.specs.StaySeen.{StaySeen}
 use Rattle.aud_cert.specs.Certificate.{TurnSeen, turn_at}
 use Rattle.aud_input.specs.TapLines.{TapLines}
 use Rattle.aud_rows.specs.Seen.{RowSeen}
 use Rattle.aud_rows.specs.TurnRows.{begin_row, break_row}
+use Rattle.aud_session_facts.specs.Ahead.{ahead_of}
 use Rattle.aud_session_facts.specs.RowLists.{row_and}
+use Rattle.aud_session_facts.specs.StayTurns.{stay_of_frame, stays_match}
 
 -- the one turn had reached the position, and the next began in front of it
 abbrev pub is_behind : ℕ → Option TurnSeen → Option TurnSeen → Bool
@@ -23,18 +27,23 @@ is_behind_at p turns number = is_behind p (slice_get turns (number - 1)) (slice_
 abbrev pub first_behind : ℕ → List TurnSeen → Option ℕ
 first_behind p turns = find (is_behind_at p turns) (numbers_from 1 (length turns - 1))
 
--- the row of the `break` of the turn with this number, and of the `back` that begins one
-abbrev pub broken_row : Cluster → List TapLines → List TurnSeen → ℕ → Option RowSeen
-broken_row c lines turns number = option_and_then (λ (t : TurnSeen). break_row c lines (turn_at c t)) (slice_get turns number)
+-- the number of the turn that may have been behind where this frame of the session came, with the entry at the position:
+-- that of the frame's stay, where the stays match the turns; where they don't, the records don't tell which turn that is,
+-- and it is the first that began behind the one before it
+abbrev pub turn_looked_at : List StreamRec → List TurnSeen → List StaySeen → ℕ → ℕ → Option ℕ
+turn_looked_at stream turns stays frame p =
+    if stays_match stream turns stays then Some (stay_of_frame stays 0 frame) else first_behind p turns
 
-abbrev pub begun_row : Cluster → List TapLines → List TurnSeen → ℕ → Option RowSeen
-begun_row c lines turns number = option_and_then (λ (t : TurnSeen). begin_row c lines (turn_at c t)) (slice_get turns number)
+-- the rows of the `break` of the one turn, and of the `back` that begins the other
+abbrev pub rows_between : Cluster → List TapLines → Option TurnSeen → Option TurnSeen → List RowSeen
+rows_between c lines (Some before) (Some turn) = row_and (break_row c lines (turn_at c before)) (row_and (begin_row c lines (turn_at c turn)) [])
+rows_between c lines _ _ = []
 
--- the rows of the `break` before the turn with this number, if there is one, and of its `back`
-abbrev pub behind_rows_at : Cluster → List TapLines → List TurnSeen → Option ℕ → List RowSeen
-behind_rows_at c lines turns None = []
-behind_rows_at c lines turns (Some number) = row_and (broken_row c lines turns (number - 1)) (row_and (begun_row c lines turns number) [])
+-- so it is of the turn with this number, and of the last one before it that had reached the position
+abbrev pub behind_rows_at : Cluster → List TapLines → List TurnSeen → ℕ → Option ℕ → List RowSeen
+behind_rows_at c lines turns p None = []
+behind_rows_at c lines turns p (Some number) = rows_between c lines (ahead_of p turns number) (slice_get turns number)
 
--- the `break` and the `back` between which the node was behind
-abbrev pub behind_rows : Cluster → List TapLines → List TurnSeen → ℕ → List RowSeen
-behind_rows c lines turns p = behind_rows_at c lines turns (first_behind p turns)
+-- the `break` and the `back` between which the node of the frame's turn was behind
+abbrev pub behind_rows : Cluster → List TapLines → List TurnSeen → List StaySeen → ℕ → ℕ → List RowSeen
+behind_rows c lines turns stays frame p = behind_rows_at c lines turns p (turn_looked_at c.stream turns stays frame p)

@@ -2,6 +2,7 @@
 use Rattle.std.specs.Prelude.{true, List, [], Option}
 use Rattle.std.specs.Option.{option_and_then}
 use Rattle.aud_node.specs.Cluster.{Cluster}
+use Rattle.aud_client.specs.StaySeen.{StaySeen}
 use Rattle.aud_cert.specs.Certificate.{CertificateSeen}
 use Rattle.aud_maker.specs.Made.{IsMade}
 use Rattle.aud_check.specs.declared.difference.Difference.{Difference}
@@ -22,10 +23,10 @@ change_row c lines role change = option_and_then (λ (ch : RoomChange). node_row
 
 -- of an entry that was not due, the change of rooms by which it was not; of one that was due, that by which it was, and
 -- of one that was lost also the leave of that room before the end of the turn; of one that came twice, the `break` and
--- the `back` between which a node was behind
-abbrev pub beside_rows : (c : Cluster) → List TapLines → (cert : CertificateSeen) → IsMade c cert.pid cert → Difference → List RowSeen
-beside_rows c lines cert made (Extra frame position) = row_and (change_row c lines Room (not_due_change c cert made position)) []
-beside_rows c lines cert made (Doubled first again position) = behind_rows c lines cert.turns position
-beside_rows c lines cert made (Swapped frame due later) = row_and (change_row c lines Room (room_change c cert true due)) []
-beside_rows c lines cert made (Lost frame due) =
+-- the `back` between which the node was behind by which it came again, where these are the session's stays
+abbrev pub beside_rows : (c : Cluster) → List TapLines → (cert : CertificateSeen) → IsMade c cert.pid cert → List StaySeen → Difference → List RowSeen
+beside_rows c lines cert made stays (Extra frame position) = row_and (change_row c lines Room (not_due_change c cert made position)) []
+beside_rows c lines cert made stays (Doubled first again position) = behind_rows c lines cert.turns stays again position
+beside_rows c lines cert made stays (Swapped frame due later) = row_and (change_row c lines Room (room_change c cert true due)) []
+beside_rows c lines cert made stays (Lost frame due) =
     row_and (change_row c lines Room (room_change c cert true due)) (row_and (change_row c lines Left (left_change c cert due)) [])

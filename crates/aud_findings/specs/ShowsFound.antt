@@ -15,19 +15,22 @@ use Rattle.aud_rows.specs.Seen.{RowSeen}
 use Rattle.aud_session_facts.specs.ShowsAltered.{ShowsAltered}
 use Rattle.aud_session_facts.specs.ShowsDifference.{ShowsDifference}
 use Rattle.aud_session_facts.specs.ShowsWindow.{ShowsWindow}
+use Rattle.aud_verdict.specs.Session.{SessionLogs, IsSession, own_stays}
 use Rattle.aud_findings.specs.BesideRows.{beside_rows}
 
 -- these are the rows of a difference between what was received of the session with this pid and what was due to it, and
--- in front of them those that tell how it comes to be one, by the session's certificate
+-- in front of them those that tell how it comes to be one, by the session's certificate and its stays
 pub record ShowsDelivery (c : Cluster) (lines : List TapLines) (pid : Text) (rows : List RowSeen) : Type 0 where
   pub cert : CertificateSeen
   pub made : IsMade c cert.pid cert
   pub names : cert.pid ≡ pid
+  pub session : SessionLogs
+  pub is_session : IsSession c pid session
   pub difference : Difference
   pub is_difference : IsDifferenceOf c pid difference
   pub shown : List RowSeen
   pub shows : ShowsDifference c lines pid shown
-  pub are_its_rows : rows ≡ beside_rows c lines cert made difference ++ shown
+  pub are_its_rows : rows ≡ beside_rows c lines cert made (own_stays c session) difference ++ shown
 
 -- the rows show it: an event that came with another content than its entry's, where what was received parts from what
 -- was due, or a recovery that was asked for where it doesn't fit

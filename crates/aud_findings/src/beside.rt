@@ -1,5 +1,5 @@
 //! What tells of a difference how it comes to be one.
-ghost use Rattle.std.specs.Prelude.{◌≡◌, [], IfSome, option_map};
+ghost use Rattle.std.specs.Prelude.{◌≡◌, [], IfSome, map, option_map};
 ghost use Rattle.aud_maker.specs.Made.{IsMade};
 ghost use Rattle.aud_rows.specs.Seen.{row_seen};
 ghost use Rattle.aud_rows.specs.TrueRow.{IsTrueRow};
@@ -10,19 +10,22 @@ use crate::behind::behind;
 use crate::rooms::{left_change, not_due_change, room_change};
 use aud_cert::Certificate;
 use aud_check::Difference;
+use aud_client::Stay;
 use aud_rows::{Role, Row, Sheet};
 use aud_session_facts::RoomChange;
 
-/// The rows that tell how the difference comes to be one, two at most.
+/// The rows that tell how the difference comes to be one, two at most, where these are the session's stays.
 pub(crate) fn beside<'r>(
     sheet: &Sheet<'r, '_>,
     cert: &Certificate<'_>,
+    stays: &[&Stay<'_>],
     difference: Difference,
 ) -> (Option<Row<'r>>, Option<Row<'r>>)
     requires { IsMade sheet.now.recording.now cert.now.pid cert.now }
     ensures rows { (made : IsMade sheet.now.recording.now cert.now.pid cert.now)
         → row_and (option_map row_seen result.0) (row_and (option_map row_seen result.1) [])
-        ≡ beside_rows sheet.now.recording.now sheet.now.lines.now cert.now made difference }
+        ≡ beside_rows sheet.now.recording.now sheet.now.lines.now cert.now made
+        (map (λ stay. stay.now) stays.now) difference }
     ensures first { IfSome result.0 (IsTrueRow sheet.now.recording.now sheet.now.lines.now) }
     ensures second { IfSome result.1 (IsTrueRow sheet.now.recording.now sheet.now.lines.now) }
 {
@@ -32,7 +35,11 @@ pub(crate) fn beside<'r>(
             let change = not_due_change(logs, cert, position);
             (change_row(sheet, change, Role::Room), None)
         }
-        Difference::Doubled { position, .. } => behind(sheet, cert.turns.as_slice(), position),
+        Difference::Doubled {
+            again,
+            position,
+            ..
+        } => behind(sheet, cert.turns.as_slice(), stays, again, position),
         Difference::Swapped { due, .. } => {
             let change = room_change(logs, cert, true, due);
             (change_row(sheet, change, Role::Room), None)

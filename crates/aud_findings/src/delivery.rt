@@ -11,7 +11,7 @@ ghost use Rattle.aud_findings.specs.ShowsFound.{IsFoundOtherwise, ShowsFound};
 ghost use Rattle.aud_findings.specs.Private.Known.{IsShownBy, finding_rows};
 
 use crate::beside::beside;
-use aud_cert::{Certificate, Fault};
+use aud_cert::Fault;
 use aud_check::Finding;
 use aud_rows::Row;
 use aud_session_facts::{
@@ -41,7 +41,7 @@ pub(crate) fn found_shown<'r>(
         rows.items)) }
 {
     match account.found_for(fault) {
-        Some(found) => Ok(Some(finding_rows(alloc, session, &account.cert, found)?)),
+        Some(found) => Ok(Some(finding_rows(alloc, session, account, found)?)),
         None => Ok(None),
     }
 }
@@ -51,21 +51,23 @@ pub(crate) fn found_shown<'r>(
 fn finding_rows<'r>(
     alloc: Global,
     session: &ShownSession<'_, 'r, '_>,
-    cert: &Certificate<'_>,
+    account: &Account<'_, '_>,
     found: Finding,
 ) -> Result<Vec<Row<'r>>, AllocError>
     requires tap { AreOf session.now.sheet.recording.now session.now.tap.now }
-    requires made { IsMade session.now.sheet.recording.now cert.now.pid cert.now }
-    ensures rows { (made : IsMade session.now.sheet.recording.now cert.now.pid cert.now)
-        → IfOk result (λ rows. map row_seen rows.items
-        ≡ finding_rows (session_of session.now) cert.now made found) }
+    requires made { IsMade session.now.sheet.recording.now account.now.cert.pid account.now.cert }
+    ensures rows { (made : IsMade session.now.sheet.recording.now account.now.cert.pid
+        account.now.cert) → IfOk result (λ rows. map row_seen rows.items
+        ≡ finding_rows (session_of session.now) account.now.cert made (stays_of account.now)
+        found) }
     ensures truth { IfOk result (λ rows.
         AreTrueRows session.now.sheet.recording.now session.now.sheet.lines.now rows.items) }
 {
     match found {
         Finding::Content(altered) => altered_rows(alloc, session, altered),
         Finding::Delivery(difference) => {
-            let (first, second) = beside(&session.sheet, cert, difference);
+            let stays = account.stays.as_slice();
+            let (first, second) = beside(&session.sheet, &account.cert, stays, difference);
             let shown = difference_rows(alloc, session, difference)?;
             let mut rows = Vec::new(alloc);
             push_row(&mut rows, first)?;

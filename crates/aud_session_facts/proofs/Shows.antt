@@ -1,5 +1,5 @@
 -- The rows of a difference, of an altered event and of a bad window show it.
-use Rattle.std.proofs.Common.{◌≡◌, ℕ, List, [], ◌∷◌, map, sym, ap, subst, ◌∙◌, unwrap_or, slice_get}
+use Rattle.std.proofs.Common.{◌≡◌, ℕ, List, map, sym, ap, subst, ◌∙◌, unwrap_or, slice_get}
 use Rattle.aud_node.specs.Cluster.{Cluster}
 use Rattle.aud_node.specs.Names.{AreNamedOnce}
 use Rattle.aud_node.specs.Stream.{Text}

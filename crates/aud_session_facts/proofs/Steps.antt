@@ -1,5 +1,5 @@
 -- One element more, as loops read lists.
-use Rattle.std.proofs.Common.{add-one, ◌≡◌, ◌<◌, ◌+◌, ◌-◌, ℕ, suc, true, List, [], ◌∷◌, ◌++◌, length, map, take, get_or, Option, Some, is_some, slice_get, refl, sym, ap, ◌∙◌, arith, append-nil, flat_map}
+use Rattle.std.proofs.Common.{add-one, ◌≡◌, ◌<◌, ◌+◌, ◌-◌, ℕ, suc, true, List, [], ◌∷◌, ◌++◌, length, map, take, get_or, Some, is_some, slice_get, refl, ap, ◌∙◌, arith, append-nil, flat_map}
 use Rattle.std.specs.Option.{option_map, option_or}
 use Rattle.std.proofs.lemmas.Grind.{flat_map-append}
 use Rattle.std.proofs.lemmas.Option.{get_or_from_slice_get, slice_get-map, slice_get_read, slice_get_within}

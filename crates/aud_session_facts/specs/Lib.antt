@@ -28,6 +28,9 @@ pub mod Reach
 pub mod Changes
 pub mod Reasons
 pub mod NotDue
+-- which turn a stay is of, and which turn was behind
+pub mod StayTurns
+pub mod Ahead
 -- the chain of turns
 pub mod Places
 pub mod Marks

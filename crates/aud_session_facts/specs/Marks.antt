@@ -1,5 +1,5 @@
 -- The records of a session that begin or end its turns.
-use Rattle.std.specs.Prelude.{ℕ, List, [], ◌∷◌, length, Option, Some, None, if◌then◌else◌, slice_get}
+use Rattle.std.specs.Prelude.{ℕ, List, length, Option, Some, None, if◌then◌else◌, slice_get}
 use Rattle.std.specs.Option.{option_map}
 use Rattle.std.specs.List.{filter_map, flat_map}
 use Rattle.std.specs.Str.{bytes_eq}

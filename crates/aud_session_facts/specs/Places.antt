@@ -1,5 +1,5 @@
 -- Records of a session, by their places in the nodes' logs.
-use Rattle.std.specs.Prelude.{◌≡◌, ℕ, suc, true, Option, Some, slice_get}
+use Rattle.std.specs.Prelude.{◌≡◌, ℕ, true, Option, Some, slice_get}
 use Rattle.aud_tap.specs.declared.records.NodeRec.{NodeRec}
 use Rattle.aud_tap.specs.declared.records.NodeRec.TheVariants.{Broke}
 use Rattle.aud_node.specs.Stream.{Text}

@@ -59,11 +59,15 @@
 //! assert_eq!(rt; misfit, Some(Misfit::MissingBreak { turn: 0, begin, back }));
 //! ```
 //!
+//! [`stays_match`] tells whether it is known of which turn each stay is, [`stay_of_frame`] in which stay a frame came, and
+//! [`ahead_of`] which turn had been ahead of one that began behind it.
+//!
 //! [`ShownSession`] is a session whose fault is shown: [`difference_rows`], [`altered_rows`] and [`window_rows`] give the
 //! records that show it, on which lines, and what each says.
 #![tactic(auto)]
 
 mod account;
+mod ahead;
 mod asked;
 mod astray;
 mod at_place;
@@ -87,9 +91,11 @@ mod reach;
 mod rooms;
 mod search;
 mod shown;
+mod stay_turns;
 mod verdict_law;
 
 pub use account::{Account, account_of};
+pub use ahead::ahead_of;
 pub use asked::{Recovery, recoveries, stay_of};
 pub use change::{RoomChange, last_change_of};
 pub use counts::{granted, refused};
@@ -111,4 +117,5 @@ pub use shown::node_records::{NodeRecord, node_rows};
 pub use shown::pushed::{push_row, push_rows};
 pub use shown::session::ShownSession;
 pub use shown::window::window_rows;
+pub use stay_turns::{asked_after, stay_of_frame, stays_match};
 pub use verdict_law::verdict_is_found;

@@ -13,10 +13,9 @@ use Rattle.aud_session_facts.specs.Opened.{opened_in}
 use Rattle.aud_session_facts.specs.Recoveries.{stays_at}
 use Rattle.aud_causes.specs.declared.cause.Cause.{Cause}
 use Rattle.aud_causes.specs.declared.cause.Cause.TheVariants.{CutBeforeReply, NamespaceDiffers, OutAfterAnswer, ReplyMissing, ReplyWithoutPid, SecondConnect, SidDiffers, TapBeganLate}
-use Rattle.aud_causes.specs.Judged.{names_by, names_causes, orphan_at}
-use Rattle.aud_causes.specs.Names.{named_causes, namespace_differs, other_namespace, other_sid, sid_differs}
+use Rattle.aud_causes.specs.Names.{names_by, names_causes, namespace_differs, other_namespace, other_sid, sid_differs}
 use Rattle.aud_causes.specs.Differences.{cause_and}
-use Rattle.aud_causes.specs.Orphans.{answered_causes, before_causes, began_late, causes_of_before, is_asked_first, is_cut, is_disconnect, last_of_stay, may_be_cut, next_of_stay, orphan_causes_of, out_after_answer, replied_causes, reply_lost, stay_before, unreplied_causes, without_reply}
+use Rattle.aud_causes.specs.Orphans.{answered_causes, before_causes, began_late, causes_of_before, is_asked_first, is_cut, is_disconnect, last_of_stay, may_be_cut, next_of_stay, orphan_at, orphan_causes_of, out_after_answer, replied_causes, reply_lost, stay_before, unreplied_causes, without_reply}
 use Rattle.aud_causes.proofs.Listed.Each.{OfSome, is_listed, of_and, of_held, of_if, of_map}
 
 -- ---- NAMES
@@ -25,14 +24,11 @@ use Rattle.aud_causes.proofs.Listed.Each.{OfSome, is_listed, of_and, of_held, of
 abbrev in_names : Cause → Bool
 in_names = is_listed fault.Names
 
-named_listed : (sid nsp : Text) (stays : List StaySeen) → list_all in_names (named_causes sid nsp stays) ≡ true
-named_listed sid nsp stays =
-    of_held in_names (sid_differs sid stays ∷ namespace_differs nsp stays ∷ [])
-    (of_map in_names SidDiffers (λ stay. refl) (other_sid sid 0 stays), (of_map in_names NamespaceDiffers (λ stay. refl) (other_namespace nsp 0 stays), tt))
-
 opened_listed : (opened : Option (Text × Text × ℕ)) (stays : List StaySeen) → list_all in_names (names_by opened stays) ≡ true
 opened_listed None stays = refl
-opened_listed (Some opened) stays = named_listed opened.0 opened.1 stays
+opened_listed (Some opened) stays =
+    of_held in_names (sid_differs opened.0 stays ∷ namespace_differs opened.1 stays ∷ [])
+    (of_map in_names SidDiffers (λ stay. refl) (other_sid opened.0 0 stays), (of_map in_names NamespaceDiffers (λ stay. refl) (other_namespace opened.1 0 stays), tt))
 
 pub names_listed : (turns : List TurnSeen) (stays : List StaySeen) → list_all in_names (names_causes turns stays) ≡ true
 names_listed turns stays = opened_listed (opened_in turns) stays

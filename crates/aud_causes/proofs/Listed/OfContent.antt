@@ -14,14 +14,14 @@ use Rattle.aud_check.specs.declared.content.Altered.{Altered as AlteredFrame}
 use Rattle.aud_check.specs.declared.window.BadWindow.{BadWindow}
 use Rattle.aud_check.specs.declared.window.Misfit.{Misfit}
 use Rattle.aud_check.specs.declared.window.Misfit.TheVariants as misfit
+use Rattle.aud_session_facts.specs.StayTurns.{asked_after}
 use Rattle.aud_causes.specs.declared.cause.Cause.{Cause}
 use Rattle.aud_causes.specs.declared.cause.Cause.TheVariants.{Altered, AnotherEncoder, AnotherEvent, AttachmentsReordered, OffsetOfAnotherSession, StaleOffset, UnknownOffset}
 use Rattle.aud_causes.specs.Contents.{causes_against, event_causes, is_altered, is_another_event, is_by_another_encoder, is_reordered}
 use Rattle.aud_causes.specs.Delivery.{cause_if}
 use Rattle.aud_causes.specs.Differences.{offset_of_another}
-use Rattle.aud_causes.specs.Facts.{asked_after}
-use Rattle.aud_causes.specs.Windows.{by_misfit, is_offset_named, misfit_cause, offset_in, other_session_of, window_causes}
-use Rattle.aud_causes.proofs.Listed.Each.{OfSome, is_listed, of_held, of_if, of_map, of_then}
+use Rattle.aud_causes.specs.Windows.{by_misfit, is_offset_named, misfit_cause, offset_in, window_causes}
+use Rattle.aud_causes.proofs.Listed.Each.{OfSome, is_listed, of_held, of_if, of_map, of_test}
 
 -- ---- CONTENT
 
@@ -62,13 +62,13 @@ module _ (conn : ℕ) where
   misfit_listed c stay off asked (misfit.Behind frame) = of_map in_window (StaleOffset stay) (λ after. refl) asked
   misfit_listed c stay off asked (misfit.NotBehind frame) = tt
 
-  other_listed : (due : List ℕ) (stay : ℕ) (asked : Option ℕ) → OfSome in_window (other_session_of due stay asked)
+  other_listed : (due : List ℕ) (stay : ℕ) (asked : Option ℕ) → OfSome in_window (offset_of_another due stay asked)
   other_listed due stay asked =
-      of_then in_window (offset_of_another due stay) (λ after. of_if in_window (not (has_position due after)) (OffsetOfAnotherSession stay after) refl) asked
+      of_test in_window (λ after. not (has_position due after)) (OffsetOfAnotherSession stay) (λ after. refl) asked
 
   pub window_listed : (c : Cluster) (stays : List StaySeen) (due : List ℕ) (window : BadWindow) → list_all in_window (window_causes c stays due window) ≡ true
   window_listed c stays due window =
       let off = offset_in (slice_get stays window.stay) in
       let asked = asked_after c.stream (slice_get stays window.stay) in
-      of_held in_window (by_misfit c window off asked ∷ other_session_of due window.stay asked ∷ [])
+      of_held in_window (by_misfit c window off asked ∷ offset_of_another due window.stay asked ∷ [])
       (misfit_listed c window.stay off asked window.why, (other_listed due window.stay asked, tt))

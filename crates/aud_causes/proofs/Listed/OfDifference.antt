@@ -1,7 +1,7 @@
 -- The causes of a difference between what was received and what was due have names of the fault's list.
-use Rattle.std.proofs.Common.{◌≡◌, ◌-◌, ◌&&◌, ◌++◌, ℕ, Bool, true, false, List, [], ◌∷◌, length, Option, Some, None, map, option_to_list, nat_eq, nat_le, nat_lt, not, refl, slice_get, take}
+use Rattle.std.proofs.Common.{◌≡◌, ◌-◌, ◌&&◌, ◌++◌, ℕ, Bool, true, false, List, [], ◌∷◌, cond, length, Option, Some, None, map, option_to_list, nat_eq, nat_le, nat_lt, not, refl, slice_get, take}
 use Rattle.std.specs.List.{list_all}
-use Rattle.std.specs.Option.{option_and_then, option_or}
+use Rattle.std.specs.Option.{option_and_then, option_map, option_or}
 use Rattle.aud_node.specs.Cluster.{Cluster}
 use Rattle.aud_node.specs.Stream.{Text, entry}
 use Rattle.aud_client.specs.StaySeen.{StaySeen}
@@ -15,6 +15,7 @@ use Rattle.aud_check.specs.Frames.{offset_at}
 use Rattle.aud_check.specs.Window.{positions_received}
 use Rattle.aud_check.specs.declared.difference.Difference.{Difference}
 use Rattle.aud_check.specs.declared.difference.Difference.TheVariants.{Doubled, Extra, Lost, Swapped}
+use Rattle.aud_session_facts.specs.Ahead.{ahead_of}
 use Rattle.aud_session_facts.specs.NotDue.{why_not_due}
 use Rattle.aud_session_facts.specs.declared.place.RecordPlace.{RecordPlace}
 use Rattle.aud_session_facts.specs.Opened.{greatest_turn_high}
@@ -24,11 +25,11 @@ use Rattle.aud_causes.specs.declared.cause.Cause.TheVariants as cause
 use Rattle.aud_causes.specs.declared.facts.Facts.{Facts}
 use Rattle.aud_causes.specs.declared.facts.Replay.{Replay}
 use Rattle.aud_causes.specs.AtBreak.{first_came, first_taken, is_by_rooms_at_break, rooms_at_break}
-use Rattle.aud_causes.specs.Behind.{behind, behind_at, first_of, last_of, last_reached, node_behind}
+use Rattle.aud_causes.specs.Behind.{behind, behind_at, first_of, last_of, node_behind}
 use Rattle.aud_causes.specs.Bodies.{are_equal_bodies, body_before, body_twice, equal_bodies, is_one_body, last_record, places_at, record_of}
 use Rattle.aud_causes.specs.Changed.{fits_with, fits_with_any}
 use Rattle.aud_causes.specs.Delivery.{doubled_in_replay, doubled_live, is_in_replay, is_live, is_outside, is_replayed, is_taken_live, is_this, lost_live, replay_includes_offset, sent_again, skipped_in_window, stale_offset, swapped_in_replay, swapped_live}
-use Rattle.aud_causes.specs.Differences.{Case, difference_causes, doubled_in, extra_by, extra_in, frame_not_recorded, lost_in, other_session_after, other_session_before, swapped_causes}
+use Rattle.aud_causes.specs.Differences.{Case, asked_past, difference_causes, doubled_in, extra_by, extra_in, lost_in, other_session_before, past_cause, swapped_causes}
 use Rattle.aud_causes.specs.Extra.{before_birth, change_missing, ended_by_log, ended_in, sent_after_end, extra_live, first_left, goes_on, is_unaddressed, last_turn, late_leave, log_ended_early, reached_at, rooms_named}
 use Rattle.aud_causes.specs.Facts.{facts_of}
 use Rattle.aud_causes.specs.Leavable.{is_left_by, leave_missing}
@@ -42,12 +43,9 @@ module _ (p : Cause → Bool) where
   behind_listed : ((broke back : RecordPlace) (high low : ℕ) → p (cause.NodeBehindBreak broke back high low) ≡ true) → (c : Cluster) (turns : List TurnSeen) (f : Facts) → OfSome p (node_behind c turns f)
   behind_listed has c turns f =
       of_choice p (f.matched && nat_lt f.earlier f.later) (behind_at c turns f.parted.position f.later) None
-      (of_then p (λ before. option_and_then (behind c f.parted.position before) (slice_get turns f.later))
-      (λ before.
-      of_then p (behind c f.parted.position before)
-      (λ t. of_if p (nat_lt t.low f.parted.position) (cause.NodeBehindBreak (last_of c before) (first_of c t) before.high t.low) (has (last_of c before) (first_of c t) before.high t.low))
+      (of_then p (λ t. option_map (behind c t) (ahead_of f.parted.position turns f.later))
+      (λ t. of_map p (behind c t) (λ before. has (last_of c before) (first_of c t) before.high t.low) (ahead_of f.parted.position turns f.later))
       (slice_get turns f.later))
-      (last_reached f.parted.position (take f.later turns)))
       tt
 
   rooms_listed : ((stay after low : ℕ) → p (cause.RoomsAtBreak stay after low) ≡ true) → (c : Cluster) (who : Who) (turns : List Turn) (stays : List StaySeen) (f : Facts)
@@ -211,13 +209,12 @@ module _ (off : Text) where
       of_test in_lost (λ (replay : Replay). is_replayed replay f.parted.position)
       (λ (replay : Replay). cause.SkippedInWindow f.later replay.after replay.low) (λ replay. refl) f.replay
 
-  other_after_listed : (due : List ℕ) (f : Facts) → OfSome in_lost (other_session_after due f)
-  other_after_listed due f =
-      of_test in_lost (λ after. nat_le f.parted.position after && not (has_position due after)) (cause.OffsetOfAnotherSession f.later) (λ after. refl) f.asked
-
-  not_recorded_listed : (due : List ℕ) (f : Facts) → OfSome in_lost (frame_not_recorded due f)
-  not_recorded_listed due f =
-      of_test in_lost (λ after. nat_le f.parted.position after && has_position due after) (cause.FrameNotRecorded f.later) (λ after. refl) f.asked
+  asked_past_listed : (due : List ℕ) (f : Facts) → OfSome in_lost (asked_past due f)
+  asked_past_listed due f = of_test in_lost (nat_le f.parted.position) (past_cause due f.later) (λ after. past (has_position due after) after) f.asked
+    where
+      past : (b : Bool) (after : ℕ) → in_lost (cond b (cause.FrameNotRecorded f.later after) (cause.OffsetOfAnotherSession f.later after)) ≡ true
+      past true after = refl
+      past false after = refl
 
   leave_listed : (c : Cluster) (pid : Text) (turns : List TurnSeen) (spans : List RoomSpan) (came : List ℕ) (f : Facts)
       → OfSome in_lost (leave_missing c pid turns spans came f)
@@ -229,13 +226,11 @@ module _ (off : Text) where
   lost_listed s f =
       let came = positions_received s.stays in
       let of_rooms = rooms_listed in_lost (λ stay after low. refl) s.c s.who s.turns s.stays f in
-      let of_other = other_after_listed s.due f in
-      let of_frame = not_recorded_listed s.due f in
       let of_live = of_if in_lost (is_taken_live f) (cause.LostLive f.parted.again) refl in
       of_held in_lost
-      (rooms_at_break s.c s.who s.turns s.stays f ∷ skipped_in_window f ∷ other_session_after s.due f
-      ∷ frame_not_recorded s.due f ∷ lost_live f ∷ leave_missing s.c s.who.pid s.seen s.spans came f ∷ [])
-      (of_rooms, (skipped_listed f, (of_other, (of_frame, (of_live, (leave_listed s.c s.who.pid s.seen s.spans came f, tt))))))
+      (rooms_at_break s.c s.who s.turns s.stays f ∷ skipped_in_window f ∷ asked_past s.due f
+      ∷ lost_live f ∷ leave_missing s.c s.who.pid s.seen s.spans came f ∷ [])
+      (of_rooms, (skipped_listed f, (asked_past_listed s.due f, (of_live, (leave_listed s.c s.who.pid s.seen s.spans came f, tt)))))
 
 -- ---- of a difference, in the list of its fault
 

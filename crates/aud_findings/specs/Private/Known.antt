@@ -4,6 +4,7 @@ use Rattle.std.specs.Global.{Vec}
 use Rattle.aud_node.specs.Cluster.{Cluster}
 use Rattle.aud_node.specs.Names.{AreNamedOnce}
 use Rattle.aud_node.specs.Stream.{Text}
+use Rattle.aud_client.specs.StaySeen.{StaySeen}
 use Rattle.aud_cert.specs.Certificate.{CertificateSeen}
 use Rattle.aud_check.specs.declared.difference.Difference.{Difference}
 use Rattle.aud_check.specs.declared.finding.Finding.{Finding}
@@ -31,12 +32,12 @@ pub record IsShownBy (c : Cluster) (pid : Text) (a : Account) (s : ShownSession)
   pub turns : s.turns.now ≡ a.cert.turns
   pub numbers : AreNumbersOf c pid a.client s.numbers.now
 
--- the rows of what was found, over the session, by the certificate that was made for it
-abbrev pub finding_rows : (s : Session) (cert : CertificateSeen) → IsMade s.c cert.pid cert → Finding → List RowSeen
-finding_rows s cert made (Content altered) = altered_rows s altered
-finding_rows s cert made (Delivery difference) = beside_rows s.c s.lines cert made difference ++ difference_rows s difference
-finding_rows s cert made (Window window) = window_rows s window
-finding_rows s cert made _ = []
+-- the rows of what was found, over the session, by the certificate that was made for it, and its stays
+abbrev pub finding_rows : (s : Session) (cert : CertificateSeen) → IsMade s.c cert.pid cert → List StaySeen → Finding → List RowSeen
+finding_rows s cert made stays (Content altered) = altered_rows s altered
+finding_rows s cert made stays (Delivery difference) = beside_rows s.c s.lines cert made stays difference ++ difference_rows s difference
+finding_rows s cert made stays (Window window) = window_rows s window
+finding_rows s cert made stays _ = []
 
 -- the rows that were found, as contracts see them; none where none were
 abbrev pub found_rows : Option (Vec Row) → List RowSeen

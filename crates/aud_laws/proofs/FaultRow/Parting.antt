@@ -48,5 +48,5 @@ module _ (c : Cluster) (lines : List TapLines) (known : KnowsEachRecord c.taps l
   parting_marked rows shows =
       let d = shows.shows in
       ap has_fault_row shows.are_its_rows
-      ∙ marked_behind (beside_rows c lines shows.cert shows.made shows.difference) shows.shown
+      ∙ marked_behind (beside_rows c lines shows.cert shows.made (own_stays c shows.session) shows.difference) shows.shown
       (ap has_fault_row d.are_its_rows ∙ difference_marked d.session d.is_session d.numbers d.are_its_stays d.difference d.is_difference)

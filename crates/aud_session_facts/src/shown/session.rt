@@ -27,27 +27,6 @@ pub struct ShownSession<'s, 'r, 'a> {
 /// Frames count from 0 over the stays whose reply names the session, in the order of the client's tap; positions of the
 /// stream from 1.
 impl<'s, 'r, 'a> ShownSession<'s, 'r, 'a> {
-    /// The session of these turns, whose client's tap is this one; its stays with these numbers are those whose reply
-    /// names the session.
-    pub fn new(
-        sheet: Sheet<'r, 'a>,
-        turns: &'s [Turn<'a>],
-        tap: &'s ClientPlaces,
-        numbers: &'s [usize],
-    ) -> ShownSession<'s, 'r, 'a>
-        ensures sheet { result.sheet ≡ sheet.entry }
-        ensures turns { result.turns.now ≡ turns.now }
-        ensures tap { result.tap.now ≡ tap.now }
-        ensures numbers { result.numbers.now ≡ numbers.now }
-    {
-        ShownSession {
-            sheet,
-            turns,
-            tap,
-            numbers,
-        }
-    }
-
     /// The row of a frame.
     pub(crate) fn got_row(&self, frame: usize, role: Role) -> Option<Row<'r>>
         requires { AreOf self.now.sheet.recording.now self.now.tap.now }

@@ -3,8 +3,8 @@ use Rattle.aud_findings.specs.Behind.{is_behind_at}
 use Rattle.aud_findings.proofs.Numbers.{found_here, found_later, found_nowhere}
 use Rattle.aud_findings.proofs.behind.first_behind.Goals as goal
 
-pub returns-then-is_behind_at-clause-found : goal.returns-then-is_behind_at-clause-found
-returns-then-is_behind_at-clause-found c =
+pub returns-then-is_behind_at : goal.returns-then-is_behind_at
+returns-then-is_behind_at c =
     sym (found_here (is_behind_at c.args.position c.args.turns.now) c.loop-number.number (length c.args.turns.now) c.loop-number-test.true (sym c.is_behind_at.ensures ∙ c.if-is_behind_at.true))
     ∙ c.loop-number.invariant
 
@@ -13,7 +13,7 @@ loop-number-preserved c =
     sym (found_later (is_behind_at c.args.position c.args.turns.now) c.loop-number.number (length c.args.turns.now) c.loop-number-test.true (sym c.is_behind_at.ensures ∙ c.if-is_behind_at.false))
     ∙ c.loop-number.invariant
 
-pub returns-clause-found : goal.returns-clause-found
-returns-clause-found c =
+pub returns : goal.returns
+returns c =
     sym (found_nowhere (is_behind_at c.args.position c.args.turns.now) c.loop-number.number (length c.args.turns.now) c.loop-number-test.false)
     ∙ c.loop-number.invariant

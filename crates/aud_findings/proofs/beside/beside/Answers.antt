@@ -1,4 +1,4 @@
-use Rattle.std.proofs.Common.{◌≡◌, ◌∙◌, [], ap, option_map, subst, sym}
+use Rattle.std.proofs.Common.{◌≡◌, ◌∙◌, [], ap, map, option_map, subst, sym}
 use Rattle.aud_node.specs.Cluster.{Cluster}
 use Rattle.aud_maker.specs.Made.{IsMade}
 use Rattle.aud_rows.specs.declared.row.Role.TheVariants.{Room}
@@ -15,5 +15,5 @@ returns-in-Extra-clause-rows c made =
     let cert = c.args.cert.now in
     let told : (m : IsMade here cert.pid cert) → c.not_due_change-change.result ≡ not_due_change here cert m c.in-Extra.position =
     subst (λ (k : Cluster). (m : IsMade k cert.pid cert) → c.not_due_change-change.result ≡ not_due_change k cert m c.in-Extra.position) c.logs-logs.ensures c.not_due_change-change.ensures in
-    subst (λ d. row_and (option_map row_seen c.change_row.result) [] ≡ beside_rows here lines cert made d) (sym c.in-Extra.is)
+    subst (λ d. row_and (option_map row_seen c.change_row.result) [] ≡ beside_rows here lines cert made (map (λ stay. stay.now) c.args.stays.now) d) (sym c.in-Extra.is)
     (ap (λ row. row_and row []) (c.change_row.ensures.row ∙ ap (change_row here lines Room) (told made)))

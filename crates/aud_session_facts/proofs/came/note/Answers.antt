@@ -1,4 +1,3 @@
-use Rattle.std.proofs.Common.{◌∙◌}
 use Rattle.aud_session_facts.proofs.Noted.{one_more}
 use Rattle.aud_session_facts.proofs.came.note.Goals as goal
 

@@ -7,7 +7,7 @@ use crate::no_packet::{advice, no_packet_words};
 use crate::why::part_words;
 
 /// What is said of a cause in words.
-#[derive(Clone, Copy, Drop)]
+#[derive(Drop)]
 pub(crate) struct Words {
     pub id: &'static str,
     pub why: &'static str,

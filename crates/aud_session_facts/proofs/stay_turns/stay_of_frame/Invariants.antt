@@ -1,6 +1,6 @@
 use Rattle.std.proofs.Common.{◌≡◌, drop, map}
-use Rattle.aud_causes.specs.Facts.{stay_of_frame}
-use Rattle.aud_causes.proofs.facts.stay_of_frame.Given as goal
+use Rattle.aud_session_facts.specs.StayTurns.{stay_of_frame}
+use Rattle.aud_session_facts.proofs.stay_turns.stay_of_frame.Given as goal
 
 -- what is to come gives the stay
 abbrev pub invariant-loop-number : goal.invariant-loop-number

@@ -1,7 +1,7 @@
 use Rattle.std.proofs.Common.{◌≡◌, drop, None}
 use Rattle.aud_node.specs.OwnRecords.{own_numbers}
 use Rattle.aud_causes.specs.Cleared.{first_cleared}
-use Rattle.aud_causes.proofs.cleared.first_cleared.Given as goal
+use Rattle.aud_causes.proofs.cleared.cleared_on.Given as goal
 
 -- the records to come give it
 abbrev pub invariant-loop-number : goal.invariant-loop-number
