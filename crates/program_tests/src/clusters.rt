@@ -17,7 +17,7 @@ use std::thread::Threads;
 use std::time::Clock;
 
 /// The bundle of a schedule: how many nodes and clients there are, and then the acts.
-pub fn bundle_of<H: Abort>(rt: &H, alloc: Global, schedule: &str) -> Result<Vec<u8>, Fail> {
+fn bundle_of(rt: &impl Abort, alloc: Global, schedule: &str) -> Result<Vec<u8>, Fail> {
     let (nodes, schedule) = cut(schedule, " ");
     let (clients, words) = cut(schedule, " ");
     let (nodes, clients) = (number(nodes), number(clients));

@@ -1,6 +1,6 @@
 //! Runs whose reader or writer fails, at each of its calls in turn, and that give or take few bytes a call.
-use crate::case::{Case, case_of};
-use crate::each_mode::each_mode_cases;
+use crate::case::Case;
+use crate::each_mode::{EACH_MODE, case_of};
 use crate::streams::{Failure, Plan, TestReader, TestWriter};
 use aud_app::{Options, RunFault, Status, Watched, run};
 use std::alloc::Global;
@@ -178,8 +178,8 @@ static PIECES: [usize; 3] = [1, 100, 65_536];
 #[test]
 fn a_reader_fails_at_each_call(rt: HostRuntime) -> Result<(), Fail> {
     let keys = RandomState::new(&rt)?;
-    for case in each_mode_cases() {
-        let case = case_of(rt.alloc(), case)?;
+    for row in &EACH_MODE {
+        let case = case_of(rt.alloc(), row)?;
         for most in PIECES {
             fail_each_read(&rt, rt.alloc(), keys, &case, most);
         }
@@ -190,8 +190,8 @@ fn a_reader_fails_at_each_call(rt: HostRuntime) -> Result<(), Fail> {
 #[test]
 fn a_writer_fails_at_each_call(rt: HostRuntime) -> Result<(), Fail> {
     let keys = RandomState::new(&rt)?;
-    for case in each_mode_cases() {
-        let case = case_of(rt.alloc(), case)?;
+    for row in &EACH_MODE {
+        let case = case_of(rt.alloc(), row)?;
         for most in PIECES {
             fail_each_write(&rt, rt.alloc(), keys, &case, most);
         }

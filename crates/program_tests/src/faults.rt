@@ -1,6 +1,6 @@
 //! Injected faults, and acts that are not possible.
 
-pub static FAULTS: [&str; 58] = [
+pub static FAULTS: [&str; 65] = [
     r#"1 1 c1@1 j1:r e:hi:r e:ho:r t1 t1
 yes p1 got=2 tail=0 turns=1
 sessions=1 yes=1 no=0
@@ -254,6 +254,36 @@ sessions=1 yes=0 no=1
 "#,
     r#"2 1 c1@1 e:a t1 x1 t2 r1@2 x1 o1@2
 no p1 WINDOW 3
+sessions=1 yes=0 no=1
+"#,
+    // others, of whose bundles `tests/cases` has the explanations
+    r#"1 1 lose c1@1 e:a t1 x1
+no p1 NOLOG
+sessions=1 yes=0 no=1
+"#,
+    r#"1 1 c1@1 e:a e:b garble1 t1 t1
+no p1 FRAME
+sessions=1 yes=0 no=1
+"#,
+    r#"1 1 u1@1 e:a t1 f1 c1@1 e:b t1
+no p1 CLIENT
+no p2 ORPHAN
+sessions=2 yes=0 no=2
+"#,
+    r#"1 1 c1@1 e:hi alter1 t1
+no p1 CONTENT 1-0
+sessions=1 yes=0 no=1
+"#,
+    r#"1 1 c1@1 e:a e:b double1 t1 t1
+no p1 DOUBLED 1-0
+sessions=1 yes=0 no=1
+"#,
+    r#"1 1 c1@1 e:a e:b hold1 t1 t1
+no p1 SWAPPED 1-0
+sessions=1 yes=0 no=1
+"#,
+    r#"1 1 c1@1 j1:r e:a:r e:b drop1 t1 t1
+no p1 LOST 1-0
 sessions=1 yes=0 no=1
 "#,
 ];

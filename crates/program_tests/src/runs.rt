@@ -1,19 +1,11 @@
 //! What comes of an input, in whichever pieces it is read, by any number of workers.
-use crate::audits::AUDITS;
-use crate::case::{Case, case_of, run_over};
-use crate::certificates::CERTIFICATES;
-use crate::each_mode::each_mode_cases;
-use crate::large::LARGE;
-use crate::limits::LIMITS;
-use crate::refused::REFUSED;
-use crate::reordered::REORDERED;
+use crate::case::{AUDIT, Case, run_over};
+use crate::each_mode::{EACH_MODE, case_of};
 use crate::streams::{Plan, TestReader};
-use crate::versions::VERSIONS;
-use aud_app::Options;
-use std::alloc::Global;
+use aud_app::{Options, Status};
+use std::alloc::{AllocError, Global};
 use std::hash::RandomState;
 use std::process::Abort;
-use std::random::RandomSource;
 use std::sync::Wait;
 use std::test::Fail;
 use std::thread::Threads;
@@ -51,47 +43,59 @@ fn look_at<H: Abort + Threads + Wait + Clock + Sync>(
         let reader = TestReader::new(case.input.as_bytes(), Plan::unfailing(most));
         let ran = run_over(rt, alloc, keys, options, reader);
         assert!(rt;
-            ran.is(case.status, case.text),
+            ran.outcome == Ok(case.status) && ran.written.as_slice() == case.text.as_bytes(),
             "{}: {most} bytes a call, {workers} workers",
             case.name
         );
     }
 }
 
-/// Looks at what comes of each case of these tables in each of these ways.
-fn look_at_all<H: Abort + Threads + Wait + Clock + RandomSource + Sync>(
-    rt: &H,
-    alloc: Global,
-    ways: &[Way],
-    tables: &[&[&str]],
-) -> Result<(), Fail> {
-    let keys = RandomState::new(rt)?;
-    for cases in tables {
-        for case in *cases {
-            look_at(rt, alloc, keys, ways, &case_of(alloc, case)?);
-        }
+#[test]
+fn each_mode(rt: HostRuntime) -> Result<(), Fail> {
+    let keys = RandomState::new(&rt)?;
+    for row in &EACH_MODE {
+        look_at(&rt, rt.alloc(), keys, &WAYS, &case_of(rt.alloc(), row)?);
     }
     Ok(())
 }
 
-#[test]
-fn each_mode(rt: HostRuntime) -> Result<(), Fail> {
-    look_at_all(&rt, rt.alloc(), &WAYS, &[each_mode_cases()])
+/// How many blanks stand after the header of a stream, which has 34 bytes, without an end of the line; how the run ends,
+/// and what is written.
+static LONG_LINES: [(usize, Status, &str); 2] = [
+    (4_194_270, Status::NoSession, "sessions=0 yes=0 no=0\n"),
+    (4_194_271, Status::Refused, "line 1: LineTooLong\n"),
+];
+
+/// The case of such a line.
+fn long_line(
+    alloc: Global,
+    row: &(usize, Status, &'static str),
+) -> Result<Case<'static>, AllocError> {
+    let &(blanks, status, text) = row;
+    let mut input = String::from_str(alloc, r#"st {"k":"tap","v":1,"of":"stream"}"#)?;
+    for _ in 0..blanks {
+        input.push(' ')?;
+    }
+    Ok(Case {
+        name: "a long line",
+        options: AUDIT,
+        input,
+        text,
+        status,
+    })
 }
 
 #[test]
-fn audits_and_certificates(rt: HostRuntime) -> Result<(), Fail> {
-    let tables: [&[&str]; 3] = [&AUDITS, &CERTIFICATES, &VERSIONS];
-    look_at_all(&rt, rt.alloc(), &WAYS, &tables)
-}
-
-#[test]
-fn lines_that_are_refused_and_lines_in_any_order(rt: HostRuntime) -> Result<(), Fail> {
-    let tables: [&[&str]; 3] = [&REFUSED, &LIMITS, &REORDERED];
-    look_at_all(&rt, rt.alloc(), &WAYS, &tables)
-}
-
-#[test]
-fn large_inputs(rt: HostRuntime) -> Result<(), Fail> {
-    look_at_all(&rt, rt.alloc(), &FEW_WAYS, &[&LARGE])
+fn long_lines(rt: HostRuntime) -> Result<(), Fail> {
+    let keys = RandomState::new(&rt)?;
+    for row in &LONG_LINES {
+        look_at(
+            &rt,
+            rt.alloc(),
+            keys,
+            &FEW_WAYS,
+            &long_line(rt.alloc(), row)?,
+        );
+    }
+    Ok(())
 }
