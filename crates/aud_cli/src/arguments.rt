@@ -1,6 +1,6 @@
 //! The arguments of the modes that read a bundle, `explain` apart.
 ghost use Rattle.std.specs.Prelude.{◌≡◌, ◌≤◌, true, None, IfErr, IfOk, IfSome};
-ghost use Rattle.aud_cli.specs.Arguments.{AreWithin, asked, files_named, given_in, has_quiet, mode_named, mode_of, options_given, options_of, with_given, workers_named};
+ghost use Rattle.aud_cli.specs.Arguments.{AreWithin, asked, files_named, given_in, has_quiet, mode_named, mode_of, options_given, with_given, workers_named};
 
 use crate::choice::{InputFiles, Mode, ModeOptions, Options};
 use crate::given::{Given, from, given_of, is_end, next_given, takes_number, values_of};
@@ -74,20 +74,7 @@ fn options_given(mode: Mode, words: &[&str]) -> Option<ModeOptions>
     Some(options)
 }
 
-/// What is asked of the mode with these options: 4 workers where they give no number.
-fn options_of(mode: Mode, options: ModeOptions) -> Options
-    requires { AreWithin mode options }
-    ensures options { result ≡ options_of mode options }
-    ensures within { (1 ≤ result.workers) × (result.workers ≤ 64) }
-{
-    Options {
-        mode,
-        workers: options.workers.unwrap_or(4),
-        whole: options.whole,
-    }
-}
-
-/// What the arguments ask for, where they are understood.
+/// What the arguments ask for, where they are understood: 4 workers where they give no number.
 fn asked(words: &[&str]) -> Option<Options>
     ensures options { result ≡ asked words.now }
     ensures within { IfSome result (λ o. (1 ≤ o.workers) × (o.workers ≤ 64)) }
@@ -96,7 +83,11 @@ fn asked(words: &[&str]) -> Option<Options>
     let (name, rest) = words.split_first()?;
     let mode = mode_named(name)?;
     let options = options_given(mode, rest)?;
-    Some(options_of(mode, options))
+    Some(Options {
+        mode,
+        workers: options.workers.unwrap_or(4),
+        whole: options.whole,
+    })
 }
 
 /// What the arguments after the program's name ask for. The error has the text to print: help that

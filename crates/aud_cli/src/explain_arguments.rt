@@ -1,11 +1,11 @@
 //! The arguments of `explain`.
 ghost use Rattle.std.specs.Prelude.{◌≡◌, ◌++◌, ◌∷◌, [], OnOk, ◌≢◌, ◌≤◌, Some, None, IfErr, IfOk, IfSome, option_map, slice_get};
 ghost use Rattle.clap.specs.Words.{kind_of};
-ghost use Rattle.aud_cli.specs.ExplainArguments.{AreWithin, asked, choices_of, fails_tail, is_mixed, is_page, lacks_whole, no_choices, options_of, records_of, shows_tail, with_given};
+ghost use Rattle.aud_cli.specs.ExplainArguments.{AreWithin, asked, choices_of, is_mixed, lacks_whole, no_choices, options_of, records_of, with_given};
 
 use crate::arguments::workers_named;
 use crate::explain_options::{Choices, ExplainOptions, NamedRecord};
-use crate::fail_on::{EVERY_CLASS, FailOn, fail_on_named};
+use crate::fail_on::{EVERY_CLASS, fail_on_named};
 use crate::given::{Given, given_of, number_in, values_of};
 use crate::help::{RECORD_NUMBERS, TAIL_ALONE};
 use crate::once::{once, switched_on};
@@ -67,26 +67,6 @@ fn choices_of(all: &[Given<'_>]) -> Option<Choices>
     Some(choices)
 }
 
-/// Whether `--only` shows tails.
-fn shows_tail(only: Option<Only>) -> bool
-    ensures { result ≡ shows_tail only }
-{
-    match only {
-        Some(Only::With(faults)) => faults.tail,
-        _ => false,
-    }
-}
-
-/// Whether `--fail-on` has tails by their word.
-fn fails_tail(fail_on: Option<FailOn>) -> bool
-    ensures { result ≡ fails_tail fail_on }
-{
-    match fail_on {
-        Some(fail_on) => fail_on.faults.tail,
-        None => false,
-    }
-}
-
 /// Whether `TAIL` is named without `--whole`, which alone looks for it.
 fn lacks_whole(choices: Choices) -> bool
     ensures { result ≡ lacks_whole choices }
@@ -94,14 +74,15 @@ fn lacks_whole(choices: Choices) -> bool
     if choices.whole {
         return false;
     }
-    shows_tail(choices.only) || fails_tail(choices.fail_on)
-}
-
-/// Whether the output is asked for as a page.
-fn is_page(form: Option<OutputForm>) -> bool
-    ensures { result ≡ is_page form }
-{
-    matches!(form, Some(OutputForm::Html))
+    let shows = match choices.only {
+        Some(Only::With(faults)) => faults.tail,
+        _ => false,
+    };
+    let fails = match choices.fail_on {
+        Some(fail_on) => fail_on.faults.tail,
+        None => false,
+    };
+    shows || fails
 }
 
 /// Whether records are asked for by their numbers, and beside them what is of sessions alone.
@@ -115,7 +96,7 @@ fn is_mixed(choices: Choices) -> bool
         || choices.only.is_some()
         || choices.fail_on.is_some()
         || choices.whole
-        || is_page(choices.form)
+        || matches!(choices.form, Some(OutputForm::Html))
 }
 
 /// Puts the record of this number of the tap after the others.

@@ -1,7 +1,7 @@
 //! What makes status 1.
 ghost use Rattle.std.specs.Prelude.{◌≡◌};
 ghost use Rattle.std.specs.List.{list_all};
-ghost use Rattle.aud_cli.specs.FailOn.{fail_on_named, fails, fails_class, is_finding};
+ghost use Rattle.aud_cli.specs.FailOn.{fail_on_named, fails, is_finding};
 ghost use Rattle.aud_cli.specs.Names.{names_in};
 
 use crate::faults::{Faults, NO_FAULTS, faults_in, is_fault};
@@ -63,17 +63,12 @@ impl FailOn {
     pub fn fails(self, fault: &Fault) -> bool
         ensures { result ≡ fails self fault.now }
     {
-        self.fails_class(class_of(fault)) || self.faults.has(fault)
-    }
-
-    fn fails_class(self, class: Class) -> bool
-        ensures { result ≡ fails_class self class }
-    {
-        match class {
+        let of_class = match class_of(fault) {
             Class::Delivery => self.delivery,
             Class::Packets => self.packets,
             Class::Recording => self.recording,
-        }
+        };
+        of_class || self.faults.has(fault)
     }
 }
 

@@ -1,7 +1,7 @@
 //! The arguments of `merge`.
 ghost use Rattle.std.specs.Prelude.{◌≡◌, ◌≢◌, Some, None, IfErr, IfOk};
 ghost use Rattle.clap.specs.Words.{kind_of};
-ghost use Rattle.aud_cli.specs.MergeArguments.{are_files, asked, merge_of, options_of};
+ghost use Rattle.aud_cli.specs.MergeArguments.{are_files, asked, options_of};
 
 use crate::given::{Given, given_of, values_of};
 use crate::merge_options::MergeOptions;
@@ -29,21 +29,8 @@ fn shared(alloc: Global, texts: &[Text]) -> Result<Texts, AllocError>
     Ok(Texts::new(shared))
 }
 
-/// The first file is the folder, and the others are reports, of which there is one at least.
-fn merge_of(alloc: Global, files: &[Text]) -> Result<Option<MergeOptions>, AllocError>
-    ensures { IfOk result (λ o. o ≡ merge_of files.now) }
-{
-    match files {
-        [] | [_] => Ok(None),
-        [folder, reports @ ..] => {
-            let folder = folder.share()?;
-            let reports = shared(alloc, reports)?;
-            Ok(Some(MergeOptions { folder, reports }))
-        }
-    }
-}
-
-/// What is asked for by all that is given.
+/// What is asked for by all that is given: the first file is the folder, and the others are reports, of which there is
+/// one at least.
 fn options_of(alloc: Global, all: &[Given<'_>]) -> Result<Option<MergeOptions>, AllocError>
     ensures { IfOk result (λ o. o ≡ options_of all.now) }
 {
@@ -51,7 +38,14 @@ fn options_of(alloc: Global, all: &[Given<'_>]) -> Result<Option<MergeOptions>, 
         return Ok(None);
     }
     let files = values_of(alloc, "", all)?;
-    merge_of(alloc, files.as_slice())
+    match files.as_slice() {
+        [] | [_] => Ok(None),
+        [folder, reports @ ..] => {
+            let folder = folder.share()?;
+            let reports = shared(alloc, reports)?;
+            Ok(Some(MergeOptions { folder, reports }))
+        }
+    }
 }
 
 /// What the arguments ask for, where they are understood.

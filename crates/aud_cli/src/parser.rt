@@ -102,7 +102,7 @@ const FILES: Argument = Argument {
     ..TEXT
 };
 
-static AUDIT: [Argument; 4] = [
+const AUDIT: &[Argument] = &[
     Argument {
         help: "Threads to audit with, 1 to 64; the report is the same for every N",
         ..WORKERS
@@ -112,7 +112,7 @@ static AUDIT: [Argument; 4] = [
     QUIET,
 ];
 
-static EXPLAIN: [Argument; 11] = [
+const EXPLAIN: &[Argument] = &[
     Argument {
         name: "pid",
         help: "Show this session; may stand several times",
@@ -172,9 +172,9 @@ static EXPLAIN: [Argument; 11] = [
     QUIET,
 ];
 
-static READING: [Argument; 2] = [FILES, QUIET];
+const READING: &[Argument] = &[FILES, QUIET];
 
-static SPLIT: [Argument; 6] = [
+const SPLIT: &[Argument] = &[
     Argument {
         name: "parts",
         help: "Make at most so many parts, 1 to 9999",
@@ -208,7 +208,7 @@ static SPLIT: [Argument; 6] = [
     QUIET,
 ];
 
-static MERGE: [Argument; 2] = [
+const MERGE: &[Argument] = &[
     Argument {
         name: "folder",
         help: "Folder that the parts were written to",
@@ -227,26 +227,14 @@ static MERGE: [Argument; 2] = [
     },
 ];
 
-/// Which arguments a command has.
-#[derive(Clone, Copy, Drop)]
-enum Arguments {
-    Audit,
-    Explain,
-    /// Those of a command without options of its own that reads a bundle.
-    Reading,
-    Split,
-    Merge,
-    /// Those of `simulate` are read by its own crate.
-    Simulate,
-}
-
 /// A command: what it does, what its help says at the end, and its arguments.
 #[derive(Clone, Copy, Drop)]
 struct Described {
     name: &'static str,
     about: &'static str,
     lines: &'static str,
-    arguments: Arguments,
+    /// Those of `simulate` are read by its own crate.
+    arguments: &'static [Argument],
 }
 
 static COMMANDS: [Described; 9] = [
@@ -254,69 +242,57 @@ static COMMANDS: [Described; 9] = [
         name: "audit",
         about: AUDIT_ABOUT,
         lines: AUDIT_LINES,
-        arguments: Arguments::Audit,
+        arguments: AUDIT,
     },
     Described {
         name: "explain",
         about: EXPLAIN_ABOUT,
         lines: EXPLAIN_LINES,
-        arguments: Arguments::Explain,
+        arguments: EXPLAIN,
     },
     Described {
         name: "prove",
         about: PROVE_ABOUT,
         lines: PROVE_LINES,
-        arguments: Arguments::Reading,
+        arguments: READING,
     },
     Described {
         name: "verify",
         about: VERIFY_ABOUT,
         lines: VERIFY_LINES,
-        arguments: Arguments::Reading,
+        arguments: READING,
     },
     Described {
         name: "order",
         about: ORDER_ABOUT,
         lines: ORDER_LINES,
-        arguments: Arguments::Reading,
+        arguments: READING,
     },
     Described {
         name: "upgrade",
         about: UPGRADE_ABOUT,
         lines: UPGRADE_LINES,
-        arguments: Arguments::Reading,
+        arguments: READING,
     },
     Described {
         name: "split",
         about: SPLIT_ABOUT,
         lines: SPLIT_LINES,
-        arguments: Arguments::Split,
+        arguments: SPLIT,
     },
     Described {
         name: "merge",
         about: MERGE_ABOUT,
         lines: MERGE_LINES,
-        arguments: Arguments::Merge,
+        arguments: MERGE,
     },
     Described {
         name: "simulate",
         about: SIMULATE_ABOUT,
         lines: SIMULATE_LINES,
-        arguments: Arguments::Simulate,
+        arguments: &[],
     },
 ];
-
-/// The arguments of a command.
-fn rows_of(arguments: Arguments) -> &'static [Argument] {
-    match arguments {
-        Arguments::Audit => &AUDIT,
-        Arguments::Explain => &EXPLAIN,
-        Arguments::Reading => &READING,
-        Arguments::Split => &SPLIT,
-        Arguments::Merge => &MERGE,
-        Arguments::Simulate => &[],
-    }
-}
 
 /// This argument.
 fn arg_of<'a>(alloc: Global, row: Argument) -> Result<Arg<'a>, AllocError> {
@@ -338,16 +314,10 @@ fn arg_of<'a>(alloc: Global, row: Argument) -> Result<Arg<'a>, AllocError> {
     arg.conflicts_with_all(row.conflicts)
 }
 
-/// One of how many parts there are, and how large.
-fn size<'a>(alloc: Global) -> Result<ArgGroup<'a>, AllocError> {
-    let size = ArgGroup::new(alloc, "size").arg("parts")?.arg("bytes")?;
-    Ok(size.required(true))
-}
-
-/// The command `split`, where one of them is required.
+/// The command `split`, where how many parts there are or how large is required.
 fn sized<'a>(alloc: Global, command: Command<'a>) -> Made<'a> {
-    let size = size(alloc)?;
-    command.group(size)
+    let size = ArgGroup::new(alloc, "size").arg("parts")?.arg("bytes")?;
+    command.group(size.required(true))
 }
 
 /// The command with these arguments.
@@ -364,11 +334,11 @@ fn command_of<'a>(alloc: Global, row: Described) -> Made<'a> {
     let command = Command::new(alloc, row.name)
         .about(row.about)
         .after_help(row.lines);
-    let command = with_args(alloc, rows_of(row.arguments), command)?;
-    match row.arguments {
-        Arguments::Split => sized(alloc, command),
-        _ => Ok(command),
+    let command = with_args(alloc, row.arguments, command)?;
+    if row.name == "split" {
+        return sized(alloc, command);
     }
+    Ok(command)
 }
 
 /// The parser, without a command.

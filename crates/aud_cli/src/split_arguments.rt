@@ -1,8 +1,7 @@
 //! The arguments of `split`.
-ghost use Rattle.std.specs.Prelude.{◌≡◌, ◌≢◌, ◌≤◌, Some, None, IfErr, IfOk, IfSome};
+ghost use Rattle.std.specs.Prelude.{◌≡◌, ◌≢◌, Some, None, IfErr, IfOk, IfSome};
 ghost use Rattle.clap.specs.Words.{kind_of};
-ghost use Rattle.aud_cli.specs.Sizes.{IsWithin};
-ghost use Rattle.aud_cli.specs.SplitArguments.{AreWithin, IsWithinAll, asked, choices_of, files_to_split, has_stdin, no_choices, only_text, options_of, split_of, with_given};
+ghost use Rattle.aud_cli.specs.SplitArguments.{AreWithin, IsWithinAll, asked, choices_of, files_to_split, has_stdin, no_choices, only_text, options_of, with_given};
 
 use crate::arguments::workers_named;
 use crate::given::{Given, given_of, values_of};
@@ -10,7 +9,7 @@ use crate::help::{BAD_SIZE, STDIN_TWICE};
 use crate::once::{once, switched_on};
 use crate::parser::refusal_or;
 use crate::sizes::{parts_named, size_named};
-use crate::split_options::{PartsWanted, SplitChoices, SplitOptions};
+use crate::split_options::{SplitChoices, SplitOptions};
 use aud_base::{Text, Texts};
 use clap::Error;
 use clap::error::ErrorKind;
@@ -79,34 +78,8 @@ fn files_to_split(files: Texts) -> Option<Texts>
     Some(files)
 }
 
-/// What is asked for with these options and parts, into these folders, of which there is to be one, and of these files.
-fn split_of(
-    choices: SplitChoices,
-    parts: PartsWanted,
-    folders: &Texts,
-    files: Texts,
-) -> Result<Option<SplitOptions>, AllocError>
-    requires choices { AreWithin choices }
-    requires parts { IsWithin parts }
-    ensures options { IfOk result (λ o. o ≡ split_of choices parts folders.now files) }
-    ensures within { IfOk result (λ o. IfSome o IsWithinAll) }
-{
-    let Some(into) = only_text(folders)? else {
-        return Ok(None);
-    };
-    let Some(files) = files_to_split(files) else {
-        return Ok(None);
-    };
-    Ok(Some(SplitOptions {
-        parts,
-        into,
-        files,
-        quiet: choices.quiet,
-        workers: choices.workers.unwrap_or(4),
-    }))
-}
-
-/// What is asked for by these options, and by the folder and the files of all that is given.
+/// What is asked for by these options, and by the folder, of which there is to be one, and the files of all that is
+/// given.
 fn options_of(
     alloc: Global,
     choices: SplitChoices,
@@ -119,9 +92,19 @@ fn options_of(
     let Some(parts) = choices.parts else {
         return Ok(None);
     };
-    let folders = values_of(alloc, "--into", all)?;
-    let files = values_of(alloc, "", all)?;
-    split_of(choices, parts, &folders, files)
+    let Some(into) = only_text(&values_of(alloc, "--into", all)?)? else {
+        return Ok(None);
+    };
+    let Some(files) = files_to_split(values_of(alloc, "", all)?) else {
+        return Ok(None);
+    };
+    Ok(Some(SplitOptions {
+        parts,
+        into,
+        files,
+        quiet: choices.quiet,
+        workers: choices.workers.unwrap_or(4),
+    }))
 }
 
 /// What the arguments ask for, where they are understood.
