@@ -2,7 +2,7 @@
 ghost use Rattle.std.specs.Prelude.{◌≡◌, ◌+◌, ◌^◌, ◌<◌, Option, List, ℕ, length, option_map, option_and_then};
 ghost use Rattle.aud_json.specs.View.{field_view, list_view, text_view, view};
 ghost use Rattle.serde_json.specs.Find.{as_array, as_str};
-ghost use Rattle.aud_refusals.specs.Excess.{count_excess, excess_of, first_excess, items_count, items_excess, length_excess, list_at, number_excess, rooms_excess, text_excess};
+ghost use Rattle.aud_refusals.specs.Excess.{count_excess, excess_of, first_excess, items_count, items_excess, length_excess, list_at, rooms_excess, text_excess};
 
 use crate::member::{Member, number_at, text_at};
 use aud_json::{Field, Fields};
@@ -102,20 +102,6 @@ fn rooms_excess(member: Member, key: &str, d: &Fields<'_>) -> Option<Excess>
     items_excess(member, MAX_ROOM, items)
 }
 
-fn number_excess(member: Member, most: u64, number: Option<u64>) -> Option<Excess>
-    ensures { result ≡ number_excess member most number }
-{
-    let number = number?;
-    if number <= most {
-        return None;
-    }
-    Some(Excess::Number {
-        member,
-        number,
-        most,
-    })
-}
-
 /// What of a member is outside its limits.
 fn excess_of(member: Member, d: &Fields<'_>) -> Option<Excess>
     ensures { result ≡ excess_of member (view d.now) }
@@ -128,7 +114,14 @@ fn excess_of(member: Member, d: &Fields<'_>) -> Option<Excess>
         Member::Room => length_excess(member, MAX_ROOM, text_at(key, d)),
         Member::Rooms | Member::Except => rooms_excess(member, key, d),
         Member::Bin => count_excess(member, MAX_ATTACHMENTS, d.get(key)?.as_list()?),
-        Member::Turn => number_excess(member, MAX_TURN, number_at(key, d)),
+        Member::Turn => match number_at(key, d) {
+            Some(number) if number > MAX_TURN => Some(Excess::Number {
+                member,
+                number,
+                most: MAX_TURN,
+            }),
+            _ => None,
+        },
         Member::Kind
         | Member::Version
         | Member::Of

@@ -1,6 +1,6 @@
 //! Help on a line whose record is no JSON that is read.
 ghost use Rattle.std.specs.Prelude.{◌≡◌, ◌++◌, ◌+◌, ◌^◌, ◌<◌, length, OnOk, string_bytes};
-ghost use Rattle.aud_refusals.specs.JsonHelp.{bytes_help, end_text, first_byte, inside_text, json_help, last_byte, text_help, utf8_text};
+ghost use Rattle.aud_refusals.specs.JsonHelp.{bytes_help, first_byte, inside_text, json_help, last_byte, text_help};
 
 use crate::no_json::{no_json, push_no_json};
 use crate::tap_name::cut_at_blank;
@@ -21,21 +21,6 @@ fn last_byte(text: &[u8]) -> Option<u8>
     text.iter().rev().copied().find(|b| !is_white(*b))
 }
 
-/// Puts help at the end on a text that begins with a brace, by its last byte.
-fn push_end(alloc: Global, out: &mut String, text: &str) -> Result<(), AllocError>
-    ensures { OnOk result (string_bytes out.new
-        ≡ string_bytes out.old ++ end_text text.now (last_byte text.now)) }
-{
-    match last_byte(text.as_bytes()) {
-        Some(b'}') => push_inside(alloc, out, text),
-        Some(_) => writeln!(
-            out,
-            "This line does not end with }}: its end may be missing."
-        ),
-        None => Ok(()),
-    }
-}
-
 fn push_inside(alloc: Global, out: &mut String, text: &str) -> Result<(), AllocError>
     ensures { OnOk result (string_bytes out.new ≡ string_bytes out.old ++ inside_text text.now) }
 {
@@ -50,20 +35,19 @@ fn push_inside(alloc: Global, out: &mut String, text: &str) -> Result<(), AllocE
 fn push_text_help(alloc: Global, out: &mut String, text: &str) -> Result<(), AllocError>
     ensures { OnOk result (string_bytes out.new ≡ string_bytes out.old ++ text_help text.now) }
 {
-    match first_byte(text.as_bytes()) {
-        Some(b'{') => push_end(alloc, out, text),
+    let bytes = text.as_bytes();
+    match first_byte(bytes) {
+        Some(b'{') => match last_byte(bytes) {
+            Some(b'}') => push_inside(alloc, out, text),
+            Some(_) => writeln!(
+                out,
+                "This line does not end with }}: its end may be missing."
+            ),
+            None => Ok(()),
+        },
         Some(_) => writeln!(out, "What follows the first blank does not begin with {{."),
         None => writeln!(out, "Nothing follows the first blank of this line."),
     }
-}
-
-fn push_utf8(out: &mut String, at: usize) -> Result<(), AllocError>
-    ensures { OnOk result (string_bytes out.new ≡ string_bytes out.old ++ utf8_text at) }
-{
-    writeln!(
-        out,
-        "What follows the first blank is UTF-8 up to byte {at} of this line, and not from there on."
-    )
 }
 
 /// Puts help on bytes after so many others at the end.
@@ -79,7 +63,13 @@ fn push_bytes_help(
 {
     match str::from_utf8(bytes) {
         Ok(text) => push_text_help(alloc, out, text),
-        Err(error) => { push_utf8(out, before + error.valid_up_to()) }
+        Err(error) => {
+            let at = before + error.valid_up_to();
+            writeln!(
+                out,
+                "What follows the first blank is UTF-8 up to byte {at} of this line, and not from there on."
+            )
+        }
     }
 }
 

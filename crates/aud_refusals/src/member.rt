@@ -1,9 +1,8 @@
 //! The members of a line's object.
 ghost use Rattle.std.specs.Prelude.{◌≡◌, is_some, IfOk, option_map, option_and_then};
-ghost use Rattle.aud_json.specs.View.{field_view, list_view, text_view, view};
+ghost use Rattle.aud_json.specs.View.{field_view, text_view, view};
 ghost use Rattle.aud_tap.specs.Json.{text_at};
-ghost use Rattle.serde_json.specs.Find.{as_str};
-ghost use Rattle.aud_reader.specs.Fields.{all_items, as_blob, blobs_at, bytes_at, decoded, id_at, id_or_null, id_or_null_at, namespace_at, number_at, texts_at};
+ghost use Rattle.aud_reader.specs.Fields.{blobs_at, decoded, number_at, texts_at};
 ghost use Rattle.aud_refusals.specs.Members.{is_formed, key_of};
 
 use aud_json::{Field, Fields};
@@ -75,39 +74,6 @@ pub fn number_at(key: &str, d: &Fields<'_>) -> Option<u64>
     d.get(key).and_then(Field::as_u64)
 }
 
-fn has_id(key: &str, d: &Fields<'_>) -> bool
-    ensures { result ≡ is_some (id_at key.now (view d.now)) }
-{
-    match text_at(key, d) {
-        Some(text) => is_id(text),
-        None => false,
-    }
-}
-
-fn has_namespace(key: &str, d: &Fields<'_>) -> bool
-    ensures { result ≡ is_some (namespace_at key.now (view d.now)) }
-{
-    match text_at(key, d) {
-        Some(text) => is_namespace(text),
-        None => false,
-    }
-}
-
-fn has_id_or_null(key: &str, d: &Fields<'_>) -> bool
-    ensures { result ≡ is_some (id_or_null_at key.now (view d.now)) }
-{
-    let Some(field) = d.get(key) else {
-        return false;
-    };
-    if field.is_null() {
-        return true;
-    }
-    match field.as_str() {
-        Some(text) => is_id(text),
-        None => false,
-    }
-}
-
 /// Whether the text spells bytes in base64 (RFC 4648, section 4), padded.
 fn is_base64(alloc: Global, text: &str) -> Result<bool, AllocError>
     ensures { IfOk result (λ is. is ≡ is_some (decoded text.now)) }
@@ -119,19 +85,16 @@ fn is_base64(alloc: Global, text: &str) -> Result<bool, AllocError>
     }
 }
 
-fn has_bytes(alloc: Global, key: &str, d: &Fields<'_>) -> Result<bool, AllocError>
-    ensures { IfOk result (λ is. is ≡ is_some (bytes_at key.now (view d.now))) }
+/// Whether the member is a list of texts, or missing.
+fn has_texts(key: &str, d: &Fields<'_>) -> bool
+    ensures { result ≡ is_some (texts_at key.now (view d.now)) }
 {
-    match text_at(key, d) {
-        Some(text) => is_base64(alloc, text),
-        None => Ok(false),
-    }
-}
-
-/// Whether each item is a text.
-fn are_texts(items: &[Option<&str>]) -> bool
-    ensures { result ≡ is_some (all_items as_str (list_view items.now)) }
-{
+    let Some(field) = d.get(key) else {
+        return true;
+    };
+    let Some(items) = field.as_list() else {
+        return false;
+    };
     for item in items {
         if item.is_none() {
             return false;
@@ -140,10 +103,16 @@ fn are_texts(items: &[Option<&str>]) -> bool
     true
 }
 
-/// Whether each item is a text that spells bytes.
-fn are_blobs(alloc: Global, items: &[Option<&str>]) -> Result<bool, AllocError>
-    ensures { IfOk result (λ is. is ≡ is_some (all_items as_blob (list_view items.now))) }
+/// Whether the member is a list of texts that spell bytes, or missing.
+fn has_blobs(alloc: Global, key: &str, d: &Fields<'_>) -> Result<bool, AllocError>
+    ensures { IfOk result (λ is. is ≡ is_some (blobs_at key.now (view d.now))) }
 {
+    let Some(field) = d.get(key) else {
+        return Ok(true);
+    };
+    let Some(items) = field.as_list() else {
+        return Ok(false);
+    };
     for item in items {
         let Some(text) = item else {
             return Ok(false);
@@ -153,30 +122,6 @@ fn are_blobs(alloc: Global, items: &[Option<&str>]) -> Result<bool, AllocError>
         }
     }
     Ok(true)
-}
-
-fn has_texts(key: &str, d: &Fields<'_>) -> bool
-    ensures { result ≡ is_some (texts_at key.now (view d.now)) }
-{
-    let Some(field) = d.get(key) else {
-        return true;
-    };
-    match field.as_list() {
-        Some(items) => are_texts(items),
-        None => false,
-    }
-}
-
-fn has_blobs(alloc: Global, key: &str, d: &Fields<'_>) -> Result<bool, AllocError>
-    ensures { IfOk result (λ is. is ≡ is_some (blobs_at key.now (view d.now))) }
-{
-    let Some(field) = d.get(key) else {
-        return Ok(true);
-    };
-    match field.as_list() {
-        Some(items) => are_blobs(alloc, items),
-        None => Ok(false),
-    }
 }
 
 /// Whether the object has this member, of its type and form.
@@ -189,11 +134,27 @@ pub fn is_formed(alloc: Global, member: Member, d: &Fields<'_>) -> Result<bool, 
             Ok(text_at(key, d).is_some())
         }
         Member::Version | Member::Turn | Member::Connection => Ok(number_at(key, d).is_some()),
-        Member::Off | Member::Pid | Member::Sid => Ok(has_id(key, d)),
-        Member::OffOrNull => Ok(has_id_or_null(key, d)),
-        Member::Nsp => Ok(has_namespace(key, d)),
+        Member::Off | Member::Pid | Member::Sid => match text_at(key, d) {
+            Some(text) => Ok(is_id(text)),
+            None => Ok(false),
+        },
+        Member::OffOrNull => match d.get(key) {
+            Some(field) if field.is_null() => Ok(true),
+            Some(field) => match field.as_str() {
+                Some(text) => Ok(is_id(text)),
+                None => Ok(false),
+            },
+            None => Ok(false),
+        },
+        Member::Nsp => match text_at(key, d) {
+            Some(text) => Ok(is_namespace(text)),
+            None => Ok(false),
+        },
         Member::Rooms | Member::Except => Ok(has_texts(key, d)),
         Member::Bin => has_blobs(alloc, key, d),
-        Member::Bytes => has_bytes(alloc, key, d),
+        Member::Bytes => match text_at(key, d) {
+            Some(text) => is_base64(alloc, text),
+            None => Ok(false),
+        },
     }
 }

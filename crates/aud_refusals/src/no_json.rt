@@ -2,7 +2,7 @@
 ghost use Rattle.std.specs.Prelude.{◌≡◌, ◌++◌, ◌≤◌, IfOk, OnOk, length, map, string_bytes};
 ghost use Rattle.json.specs.Lex.{tokens};
 ghost use Rattle.json.specs.Reads.{token_of};
-ghost use Rattle.aud_refusals.specs.NoJson.{bytes_front, depth_after, depth_of, fault_in, is_json, no_d, no_json, no_json_text, read_from, token_fault, token_front, tokens_front};
+ghost use Rattle.aud_refusals.specs.NoJson.{bytes_front, depth_after, depth_of, fault_in, is_json, no_d, no_json, no_json_text, read_from, token_front};
 
 use crate::opened::fields_of;
 use crate::token_place::begin_of_token;
@@ -123,32 +123,17 @@ fn tokens_read(alloc: Global, text: &str) -> Result<usize, AllocError>
     Ok(count)
 }
 
-fn text_front(alloc: Global, text: &str) -> Result<Front, AllocError>
-    ensures { IfOk result (λ front. front ≡ tokens_front (tokens text.now)) }
+fn bytes_front(alloc: Global, bytes: &[u8]) -> Result<Front, AllocError>
+    ensures { IfOk result (λ front. front ≡ bytes_front bytes.now) }
 {
+    let Ok(text) = str::from_utf8(bytes) else {
+        return Ok(Front::Bad);
+    };
     let mut scratch = Scratch::new(alloc);
     let mut reader = Reader::new(text, &mut scratch)?;
     match reader.next() {
         Some(token) => token_front(alloc, &token),
         None => Ok(Front::End),
-    }
-}
-
-fn bytes_front(alloc: Global, bytes: &[u8]) -> Result<Front, AllocError>
-    ensures { IfOk result (λ front. front ≡ bytes_front bytes.now) }
-{
-    match str::from_utf8(bytes) {
-        Ok(text) => text_front(alloc, text),
-        Err(_error) => Ok(Front::Bad),
-    }
-}
-
-fn no_d(b: u8) -> u8
-    ensures { result ≡ no_d b }
-{
-    match b {
-        b'D' | b'd' => b'0',
-        _ => b,
     }
 }
 
@@ -158,23 +143,9 @@ fn without_d(alloc: Global, bytes: &[u8]) -> Result<Vec<u8>, AllocError>
 {
     let mut out = Vec::new(alloc);
     for b in bytes {
-        out.push(no_d(*b))?;
+        out.push(if matches!(b, b'D' | b'd') { b'0' } else { *b })?;
     }
     Ok(out)
-}
-
-/// What is wrong with what these bytes begin with, at this byte, which is no token.
-fn token_fault(alloc: Global, at: usize, bytes: &[u8]) -> Result<NoJson, AllocError>
-    ensures { IfOk result (λ why. why ≡ token_fault at bytes.now) }
-{
-    if !matches!(bytes.first(), Some(b'"')) {
-        return Ok(NoJson::Word(at));
-    }
-    let mended = without_d(alloc, bytes)?;
-    match bytes_front(alloc, mended.as_slice())? {
-        Front::Good => Ok(NoJson::HalfPair(at)),
-        Front::End | Front::Huge | Front::Bad => Ok(NoJson::Quoted(at)),
-    }
 }
 
 /// What is wrong at this byte, where these come there.
@@ -185,7 +156,14 @@ fn fault_in(alloc: Global, at: usize, bytes: &[u8]) -> Result<NoJson, AllocError
         Front::End => Ok(NoJson::Unmatched),
         Front::Good => Ok(NoJson::Sign(at)),
         Front::Huge => Ok(NoJson::Number(at)),
-        Front::Bad => token_fault(alloc, at, bytes),
+        Front::Bad if !matches!(bytes.first(), Some(b'"')) => Ok(NoJson::Word(at)),
+        Front::Bad => {
+            let mended = without_d(alloc, bytes)?;
+            match bytes_front(alloc, mended.as_slice())? {
+                Front::Good => Ok(NoJson::HalfPair(at)),
+                Front::End | Front::Huge | Front::Bad => Ok(NoJson::Quoted(at)),
+            }
+        }
     }
 }
 

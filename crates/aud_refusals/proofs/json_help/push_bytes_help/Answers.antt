@@ -1,3 +1,4 @@
+use Rattle.std.proofs.Common.{rules}
 use Rattle.std.proofs.lemmas.Str.{is_utf8-from_IsUtf8}
 use Rattle.aud_refusals.proofs.TextsLemmas.{is_utf8-not}
 use Rattle.aud_refusals.proofs.json_help.push_bytes_help.Goals as goal
@@ -10,4 +11,4 @@ returns-in-Ok c =
 pub returns-in-Err : goal.returns-in-Err
 returns-in-Err c =
     let no = is_utf8-not c.args.bytes.now c.in-Err.ensures.cases.0 in
-    rw (no, ← c.in-Err.ensures.valid_len, ← c.valid_up_to.ensures) c.push_utf8.ensures
+    rw (no, ← c.in-Err.ensures.valid_len, ← c.valid_up_to.ensures) (search rules)
