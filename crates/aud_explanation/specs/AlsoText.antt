@@ -5,16 +5,12 @@ use Rattle.aud_explanation.specs.Page.{laid_line}
 use Rattle.aud_explanation.specs.Span.{lines_listed, span}
 
 -- the words that come first, for the entries from one to another
-unfoldable pub also_words : ℕ → ℕ → List ℕ
+abbrev pub also_words : ℕ → ℕ → List ℕ
 also_words from to = if from == to then codes "    also entry " else codes "    also entries "
-
--- the entries
-abbrev pub entry_words : ℕ → ℕ → List ℕ
-entry_words from to = also_words from to ++ span from to ++ codes ", "
 
 -- the entries, and the lines that show them
 abbrev pub also_line : Also → List ℕ
-also_line also = entry_words also.position also.to ++ lines_listed also.lines.now
+also_line also = also_words also.position also.to ++ span also.position also.to ++ codes ", " ++ lines_listed also.lines.now
 
 -- their line
 abbrev pub also_text : Also → List ℕ
@@ -24,13 +20,13 @@ also_text also = laid_line (also_line also)
 abbrev pub others_text : List Also → List ℕ
 others_text others = flat_map also_text others
 
--- the words that come last, for so many entries
-unfoldable pub more_words : ℕ → List ℕ
-more_words left = if left == 1 then codes " entry more" else codes " entries more"
+-- the word for so many entries
+abbrev pub entries_word : ℕ → List ℕ
+entries_word left = if left == 1 then codes "entry" else codes "entries"
 
 -- how many entries more have it
 abbrev pub more_line : ℕ → List ℕ
-more_line left = codes "    and " ++ decimal left ++ more_words left
+more_line left = codes "    and " ++ decimal left ++ codes " " ++ entries_word left ++ codes " more"
 
 -- its line; none where none do
 abbrev pub more_text : ℕ → List ℕ

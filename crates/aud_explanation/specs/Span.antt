@@ -1,5 +1,5 @@
 -- Numbers, in words.
-use Rattle.std.specs.Prelude.{ℕ, List, [], ◌∷◌, ◌++◌, ◌==◌, codes, decimal, flat_map, if◌then◌else◌, Option, Some, None}
+use Rattle.std.specs.Prelude.{ℕ, List, [], ◌++◌, ◌==◌, codes, decimal, flat_map, length, if◌then◌else◌, Option, Some, None}
 
 -- the numbers from one to another
 abbrev pub span : ℕ → ℕ → List ℕ
@@ -20,8 +20,7 @@ listed numbers = flat_map one_listed numbers
 
 -- the word for these lines
 abbrev pub line_word : List ℕ → List ℕ
-line_word (line ∷ []) = codes "line"
-line_word lines = codes "lines"
+line_word lines = if length lines == 1 then codes "line" else codes "lines"
 
 -- the lines: `line 28`, or `lines 28 36`
 abbrev pub lines_listed : List ℕ → List ℕ

@@ -15,12 +15,12 @@ node_width turns = fold (λ width turn. max width (length turn.node.now)) 1 turn
 
 -- the record by which the turn begins
 abbrev pub begin_name : TurnBegin → List ℕ
-begin_name Open = codes " open, cursor "
-begin_name Back = codes " back, cursor "
+begin_name Open = codes "open"
+begin_name Back = codes "back"
 
 -- the line that it stands on, and the cursor there
 abbrev pub begin_words : TurnBegin → ℕ → ℕ → List ℕ
-begin_words begin at cursor = codes "  " ++ decimal at ++ begin_name begin ++ decimal cursor ++ codes " =="
+begin_words begin at cursor = codes "  " ++ decimal at ++ codes " " ++ begin_name begin ++ codes ", cursor " ++ decimal cursor ++ codes " =="
 
 -- what the node took in it
 abbrev pub took_words : Option (ℕ × ℕ) → List ℕ
@@ -29,13 +29,13 @@ took_words None = []
 
 -- the line on which it ends, how, and the cursor there
 abbrev pub ending : ℕ → List ℕ → ℕ → List ℕ
-ending at how cursor = codes " " ++ decimal at ++ how ++ decimal cursor
+ending at how cursor = codes " " ++ decimal at ++ codes " " ++ how ++ codes ", cursor " ++ decimal cursor
 
 -- how it ends
 abbrev pub end_words : TurnEnd → List ℕ
-end_words (Break at high) = ending at (codes " break, cursor ") high
-end_words (Gone at high) = ending at (codes " gone, cursor ") high
-end_words (Log at high) = ending at (codes " log ends, cursor ") high
+end_words (Break at high) = ending at (codes "break") high
+end_words (Gone at high) = ending at (codes "gone") high
+end_words (Log at high) = ending at (codes "log ends") high
 end_words Missing = codes " no break  <- missing"
 
 -- its number, and its node

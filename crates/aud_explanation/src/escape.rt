@@ -1,6 +1,6 @@
 //! Texts as they are printed.
 ghost use Rattle.std.specs.Prelude.{◌≡◌, ◌++◌, ◌<◌, IfOk, OnOk, string_bytes};
-ghost use Rattle.aud_explanation.specs.Printed.{PrintedApart, hex, hex_16, hex_code, is_hidden, json_escape, json_printed, json_shown, json_unit, printed, shown};
+ghost use Rattle.aud_explanation.specs.Printed.{PrintedApart, hex_16, hex_code, is_hidden, json_escape, json_printed, json_shown, json_unit, printed, shown};
 
 use std::alloc::{AllocError, Global};
 
@@ -30,21 +30,12 @@ pub(crate) fn is_hidden(c: char) -> bool
     )
 }
 
-/// Puts a byte at the end in two hexadecimal digits.
-fn push_hex(out: &mut String, byte: u32) -> Result<(), AllocError>
-    requires { byte < 256 }
-    ensures { OnOk result (string_bytes out.new ≡ string_bytes out.old ++ hex byte) }
-{
-    write!(out, "{byte:02x}")
-}
-
-/// Puts a number of 16 bits at the end in four.
+/// Puts a number of 16 bits at the end in four hexadecimal digits.
 fn push_hex_16(out: &mut String, number: u32) -> Result<(), AllocError>
     requires { number < 65536 }
     ensures { OnOk result (string_bytes out.new ≡ string_bytes out.old ++ hex_16 number) }
 {
-    push_hex(out, number / 256)?;
-    push_hex(out, number % 256)
+    write!(out, "{:02x}{:02x}", number / 256, number % 256)
 }
 
 /// Puts the code of a character at the end in four hexadecimal digits, or six from U+10000 on.
@@ -55,7 +46,7 @@ fn push_hex_code(out: &mut String, code: u32) -> Result<(), AllocError>
     if code < 65536 {
         return push_hex_16(out, code);
     }
-    push_hex(out, code / 65536)?;
+    write!(out, "{:02x}", code / 65536)?;
     push_hex_16(out, code % 65536)
 }
 

@@ -1,7 +1,7 @@
 //! Names that others chose, as they stand in a line.
 ghost use Rattle.std.specs.Prelude.{◌≡◌, ◌++◌, IfOk, OnOk, chars, string_bytes};
 ghost use Rattle.std.specs.Option.{option_copied};
-ghost use Rattle.aud_explanation.specs.Named.{NamesApart, cut_name, in_quotes, is_of_plain, is_plain_name, name_words, named_words, quoted, short_of, whole_name, whole_of};
+ghost use Rattle.aud_explanation.specs.Named.{NamesApart, cut_name, in_quotes, is_of_plain, is_plain_name, name_words, named_words, quoted, whole_name};
 
 use crate::escape::is_hidden;
 use crate::long::{first_shown, last_shown, left_out};
@@ -76,30 +76,6 @@ fn push_cut(out: &mut String, characters: &[char]) -> Result<(), AllocError>
     push_quoted(out, last_shown(characters))
 }
 
-/// Puts the name of these characters at the end.
-fn push_whole(out: &mut String, name: &str, characters: &[char]) -> Result<(), AllocError>
-    ensures { OnOk result (string_bytes out.new
-        ≡ string_bytes out.old ++ whole_of name.now characters.now) }
-{
-    if is_plain_name(characters) {
-        out.push_str(name)
-    } else {
-        push_quoted(out, characters)
-    }
-}
-
-/// The same of a name that is cut where it is long.
-fn push_short(out: &mut String, name: &str, characters: &[char]) -> Result<(), AllocError>
-    ensures { OnOk result (string_bytes out.new
-        ≡ string_bytes out.old ++ short_of name.now characters.now) }
-{
-    if left_out(characters) == 0 {
-        push_whole(out, name, characters)
-    } else {
-        push_cut(out, characters)
-    }
-}
-
 fn chars_of(alloc: Global, name: &str) -> Result<Vec<char>, AllocError>
     ensures { IfOk result (λ cs. cs.items ≡ chars name.now) }
 {
@@ -120,8 +96,9 @@ pub(crate) fn push_name(
     let characters = chars_of(alloc, name)?;
     let characters = characters.as_slice();
     match names {
-        Names::Whole => push_whole(out, name, characters),
-        Names::Short => push_short(out, name, characters),
+        Names::Short if left_out(characters) > 0 => push_cut(out, characters),
+        _ if is_plain_name(characters) => out.push_str(name),
+        _ => push_quoted(out, characters),
     }
 }
 

@@ -2,7 +2,7 @@
 ghost use Rattle.std.specs.Prelude.{◌≡◌, ◌++◌, false, IfOk, OnOk, string_bytes};
 ghost use Rattle.serde_json.specs.View.{view};
 ghost use Rattle.serde_json.specs.Written.{has_float};
-ghost use Rattle.aud_explanation.specs.WholeRecord.{head_words, line_words, whole_record_data, whole_record_json, whole_record_text};
+ghost use Rattle.aud_explanation.specs.WholeRecord.{head_words, whole_record_data, whole_record_json, whole_record_text};
 
 use crate::escape::{push_json_printed, push_printed};
 use crate::json_line::place::put_place;
@@ -12,38 +12,26 @@ use aud_input::{InputFile, place_told};
 use serde_json::{Map, Value, put};
 use std::alloc::{AllocError, Global};
 
-/// Puts the line at the end, where it is known.
-fn push_line_words(
+/// Puts the tap, the record's number, and its line, where it is known, at the end.
+fn push_head(
     alloc: Global,
-    head: &mut String,
-    files: &[InputFile],
-    line: Option<u64>,
-) -> Result<(), AllocError>
-    ensures { OnOk result (string_bytes head.new
-        ≡ string_bytes head.old ++ line_words files.now line) }
-{
-    match line {
-        Some(line) => {
-            write!(head, "  line {line}")?;
-            push_place(alloc, head, files, line)
-        }
-        None => Ok(()),
-    }
-}
-
-/// The tap, the record's number, and its line.
-fn head_words(
-    alloc: Global,
+    out: &mut String,
     files: &[InputFile],
     tap: &str,
     number: u64,
     line: Option<u64>,
-) -> Result<String, AllocError>
-    ensures { IfOk result (λ head. string_bytes head ≡ head_words files.now tap.now number line) }
+) -> Result<(), AllocError>
+    ensures { OnOk result (string_bytes out.new
+        ≡ string_bytes out.old ++ head_words files.now tap.now number line) }
 {
-    let mut head = format!(in alloc; "{tap} {number}")?;
-    push_line_words(alloc, &mut head, files, line)?;
-    Ok(head)
+    write!(out, "{tap} {number}")?;
+    match line {
+        Some(line) => {
+            write!(out, "  line {line}")?;
+            push_place(alloc, out, files, line)
+        }
+        None => Ok(()),
+    }
 }
 
 /// The record with this number of the tap of this name, its line where that is known, and its JSON, as a line of text
@@ -62,7 +50,8 @@ pub fn whole_record_text(
     ensures { has_float (view json.now) ≡ false → IfOk result (λ text. string_bytes text
         ≡ whole_record_text files.now tap.now number line (view json.now)) }
 {
-    let head = head_words(alloc, files, tap, number, line)?;
+    let mut head = String::new(alloc);
+    push_head(alloc, &mut head, files, tap, number, line)?;
     let json = json.to_string(alloc)?;
     let mut out = String::new(alloc);
     push_printed(&mut out, head.as_str())?;

@@ -3,13 +3,12 @@ ghost use Rattle.std.specs.Prelude.{◌≡◌, IfOk};
 ghost use Rattle.std.specs.Option.{option_copied};
 ghost use Rattle.serde_json.specs.View.{view, items_view};
 ghost use Rattle.aud_cert.specs.Text.{items};
-ghost use Rattle.aud_explanation.specs.JsonRefused.{all_missed_data, missed_data, missed_left_data, reply_data};
+ghost use Rattle.aud_explanation.specs.JsonRefused.{all_missed_data, missed_data};
 
 use crate::json_line::value::{Told, text_or_null, texts, values};
 use crate::long::{all_shown, left_out};
 use crate::refused::{Missed, RefusedRecovery};
 use aud_input::InputFile;
-use aud_rows::Row;
 use serde_json::{Value, json};
 use std::alloc::{AllocError, Global};
 
@@ -43,31 +42,6 @@ fn all_missed_value(alloc: Global, entries: Option<&[Missed<'_>]>) -> Result<Val
     }
 }
 
-/// How many entries are left out, or `null`.
-fn missed_left_value(entries: Option<&[Missed<'_>]>) -> Value
-    ensures { view result ≡ missed_left_data (option_copied entries.entry) }
-{
-    match entries {
-        Some(entries) => Value::from(left_out(entries) as u64),
-        None => Value::Null,
-    }
-}
-
-/// The reply, or `null`.
-fn reply_value(
-    alloc: Global,
-    files: &[InputFile],
-    pid: &str,
-    reply: Option<Row<'_>>,
-) -> Result<Value, AllocError>
-    ensures { IfOk result (λ v. view v ≡ reply_data files.now pid.now reply.entry) }
-{
-    match reply {
-        Some(reply) => reply.value(alloc, files, pid),
-        None => Ok(Value::Null),
-    }
-}
-
 /// `{"ask":..,"has_cause":..,"instead":..,"missed":..,"missed_left":..,"refuted":[..],"reply":..}`.
 impl<'l, 'r> Told for RefusedRecovery<'l, 'r> {
     ghost use Rattle.aud_explanation.specs.JsonRefused.{refused_data};
@@ -79,9 +53,15 @@ impl<'l, 'r> Told for RefusedRecovery<'l, 'r> {
         let has_cause = self.has_cause;
         let instead = text_or_null(alloc, self.instead)?;
         let missed = all_missed_value(alloc, self.missed)?;
-        let missed_left = missed_left_value(self.missed);
+        let missed_left = match self.missed {
+            Some(entries) => Value::from(left_out(entries) as u64),
+            None => Value::Null,
+        };
         let refuted = Value::Array(texts(alloc, self.refuted)?);
-        let reply = reply_value(alloc, files, pid, self.reply)?;
+        let reply = match self.reply {
+            Some(reply) => reply.value(alloc, files, pid)?,
+            None => Value::Null,
+        };
         json!(in alloc; {"ask": ask, "has_cause": has_cause, "instead": instead, "missed": missed, "missed_left": missed_left, "refuted": refuted, "reply": reply})
     }
 }

@@ -1,25 +1,13 @@
 //! A turn as an object.
 ghost use Rattle.std.specs.Prelude.{◌≡◌, IfOk};
 ghost use Rattle.serde_json.specs.View.{view};
-ghost use Rattle.aud_explanation.specs.JsonTurn.{end_word, high_at, lines_data, took_data};
+ghost use Rattle.aud_explanation.specs.JsonTurn.{lines_data, took_data};
 
 use crate::json_line::value::{Told, numbers, put_numbers, put_texts};
 use crate::turn::{TurnBegin, TurnEnd, TurnShown};
 use aud_input::InputFile;
 use serde_json::{Map, Value, put};
 use std::alloc::{AllocError, Global};
-
-/// How a turn ends, in a word, and the node's cursor there.
-fn word_and_high(end: TurnEnd) -> (&'static str, Option<u64>)
-    ensures { (result.0.now ≡ end_word end) × (result.1 ≡ high_at end) }
-{
-    match end {
-        TurnEnd::Break { high, .. } => ("break", Some(high)),
-        TurnEnd::Gone { high, .. } => ("gone", Some(high)),
-        TurnEnd::Log { high, .. } => ("log", Some(high)),
-        TurnEnd::Missing => ("missing", None),
-    }
-}
 
 /// The lines on which a turn begins and ends.
 fn lines_value(alloc: Global, begin: u64, end: TurnEnd) -> Result<Value, AllocError>
@@ -55,7 +43,12 @@ impl<'r> Told for TurnShown<'r> {
             TurnBegin::Open => "open",
             TurnBegin::Back => "back",
         };
-        let (end, high) = word_and_high(self.end);
+        let (end, high) = match self.end {
+            TurnEnd::Break { high, .. } => ("break", Some(high)),
+            TurnEnd::Gone { high, .. } => ("gone", Some(high)),
+            TurnEnd::Log { high, .. } => ("log", Some(high)),
+            TurnEnd::Missing => ("missing", None),
+        };
         let texts = [
             ("begin", Some(begin)),
             ("end", Some(end)),

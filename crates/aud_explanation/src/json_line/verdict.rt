@@ -1,8 +1,8 @@
 //! The members of the verdict.
-ghost use Rattle.std.specs.Prelude.{◌≡◌, IfOk, OnOk};
+ghost use Rattle.std.specs.Prelude.{◌≡◌, OnOk};
 ghost use Rattle.std.specs.Option.{option_copied};
-ghost use Rattle.serde_json.specs.View.{view, members_view};
-ghost use Rattle.aud_explanation.specs.JsonVerdict.{class_data, fault_off, with_verdict};
+ghost use Rattle.serde_json.specs.View.{members_view};
+ghost use Rattle.aud_explanation.specs.JsonVerdict.{fault_off, with_verdict};
 
 use crate::json_line::value::put_texts;
 use aud_cert::{Class, Fault, fault_word};
@@ -21,15 +21,6 @@ fn fault_off(fault: &Fault) -> Option<&str>
         | Fault::Swapped(off)
         | Fault::Lost(off) => Some(off.as_str()),
         _ => None,
-    }
-}
-
-fn class_value(alloc: Global, class: Option<Class>) -> Result<Value, AllocError>
-    ensures { IfOk result (λ v. view v ≡ class_data class) }
-{
-    match class {
-        Some(class) => Ok(Value::String(format!(in alloc; "{class}")?)),
-        None => Ok(Value::Null),
     }
 }
 
@@ -57,5 +48,9 @@ pub(crate) fn put_verdict<'v>(
     ];
     put(members, alloc, "v", Value::from(1u64))?;
     put_texts(alloc, members, &texts)?;
-    put(members, alloc, "class", class_value(alloc, class)?)
+    let class = match class {
+        Some(class) => Value::String(format!(in alloc; "{class}")?),
+        None => Value::Null,
+    };
+    put(members, alloc, "class", class)
 }

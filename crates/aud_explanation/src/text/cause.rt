@@ -1,6 +1,6 @@
 //! The causes.
 ghost use Rattle.std.specs.Prelude.{◌≡◌, ◌++◌, OnOk, string_bytes};
-ghost use Rattle.aud_explanation.specs.CauseText.{cause_text, causes_text, each_text, has_own, is_of_fault, is_sole, lines_words, none_holds, none_text, of_words, stands_words};
+ghost use Rattle.aud_explanation.specs.CauseText.{cause_text, causes_text, each_text, has_own, is_sole, lines_words, none_holds, none_text, of_words, stands_words};
 
 use crate::cause::{Cause, CauseOf, CauseState};
 use crate::long::{first_shown, last_shown, left_out, push_more};
@@ -62,18 +62,12 @@ fn push_cause(
     push_line(out, line.as_str())
 }
 
-fn is_of_fault(of: CauseOf) -> bool
-    ensures { result ≡ is_of_fault of }
-{
-    matches!(of, CauseOf::Fault)
-}
-
 /// Whether one of the causes is of the fault.
 fn has_own(causes: &[Cause<'_>]) -> bool
     ensures { result ≡ has_own causes.now }
 {
     for cause in causes {
-        if is_of_fault(cause.of) {
+        if matches!(cause.of, CauseOf::Fault) {
             return true;
         }
     }
@@ -89,7 +83,7 @@ fn is_sole(refuted: &[&'static str], causes: &[Cause<'_>]) -> bool
         return false;
     }
     match causes {
-        [first, others @ ..] => is_of_fault(first.of) && !has_own(others),
+        [first, others @ ..] => matches!(first.of, CauseOf::Fault) && !has_own(others),
         [] => false,
     }
 }

@@ -26,16 +26,6 @@ fn push_happens(out: &mut String, happens: Happens) -> Result<(), AllocError>
     }
 }
 
-/// The lines, and what happens there.
-fn event_words(alloc: Global, event: &ClientEvent) -> Result<String, AllocError>
-    ensures { IfOk result (λ text. string_bytes text ≡ event_words event.now) }
-{
-    let mut text = String::new(alloc);
-    push_span(&mut text, event.first, event.last)?;
-    push_happens(&mut text, event.happens)?;
-    Ok(text)
-}
-
 /// Puts the words at the end, in the next line where this one has no room for two blanks and them; the column after them.
 fn push_piece(out: &mut String, column: usize, words: &str) -> Result<usize, AllocError>
     ensures text { OnOk result (string_bytes out.new
@@ -50,7 +40,7 @@ fn push_piece(out: &mut String, column: usize, words: &str) -> Result<usize, All
     Ok(8 + words.len().min(92))
 }
 
-/// Puts what happens at the end, and gives the column after it.
+/// Puts the lines of an event and what happens there at the end, and gives the column after that.
 fn push_event(
     alloc: Global,
     out: &mut String,
@@ -61,7 +51,9 @@ fn push_event(
         ≡ string_bytes out.old ++ piece column (event_words event.now)) }
     ensures end { IfOk result (λ end. end ≡ piece_end column (event_words event.now)) }
 {
-    let words = event_words(alloc, event)?;
+    let mut words = String::new(alloc);
+    push_span(&mut words, event.first, event.last)?;
+    push_happens(&mut words, event.happens)?;
     push_piece(out, column, words.as_str())
 }
 

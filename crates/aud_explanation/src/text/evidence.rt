@@ -1,6 +1,6 @@
 //! The table of evidence.
 ghost use Rattle.std.specs.Prelude.{◌≡◌, ◌++◌, OnOk, string_bytes};
-ghost use Rattle.aud_explanation.specs.Evidence.{evidence_text, heading_text, row_text, row_words, rows_text, table_text, tap_width};
+ghost use Rattle.aud_explanation.specs.Evidence.{evidence_text, heading_text, row_text, rows_text, table_text, tap_width};
 
 use crate::long::{first_shown, last_shown, push_more};
 use crate::long_rows::{kept_rows, rows_left};
@@ -25,33 +25,7 @@ fn tap_width(rows: &[Row<'_>]) -> usize
     width
 }
 
-/// Puts the words of a row at the end: of a record that speaks of another session than the one with this pid, of which.
-fn push_words(
-    alloc: Global,
-    line: &mut String,
-    pid: &str,
-    verdict: &Verdict,
-    width: usize,
-    row: &Row<'_>,
-) -> Result<(), AllocError>
-    ensures { OnOk result (string_bytes line.new
-        ≡ string_bytes line.old ++ row_words pid.now verdict.now width row.now) }
-{
-    let number = row.line;
-    let digits = format!(in alloc; "{number}")?;
-    let digits = digits.as_str();
-    push_blanks(line, 8usize.saturating_sub(digits.len()))?;
-    line.push_str(digits)?;
-    line.push_str(" ")?;
-    push_left(line, row.tap, width)?;
-    line.push_str("  ")?;
-    push_record(alloc, line, Names::Short, row.says)?;
-    let other = other_session(row.session, pid);
-    push_named(alloc, line, Names::Short, " of ", other, "")?;
-    line.push_str(mark(row.role, verdict))
-}
-
-/// Puts the line of a row at the end.
+/// Puts the line of a row at the end: of a record that speaks of another session than the one with this pid, of which.
 #[tactic(auto, unfolding(crate::specs::Evidence::row_text))]
 pub(crate) fn push_row(
     alloc: Global,
@@ -65,9 +39,20 @@ pub(crate) fn push_row(
     ensures { OnOk result (string_bytes out.new
         ≡ string_bytes out.old ++ row_text files.now pid.now verdict.now width row.now) }
 {
+    let number = row.line;
+    let other = other_session(row.session, pid);
+    let digits = format!(in alloc; "{number}")?;
+    let digits = digits.as_str();
     let mut line = String::new(alloc);
-    push_words(alloc, &mut line, pid, verdict, width, row)?;
-    push_place(alloc, &mut line, files, row.line)?;
+    push_blanks(&mut line, 8usize.saturating_sub(digits.len()))?;
+    line.push_str(digits)?;
+    line.push_str(" ")?;
+    push_left(&mut line, row.tap, width)?;
+    line.push_str("  ")?;
+    push_record(alloc, &mut line, Names::Short, row.says)?;
+    push_named(alloc, &mut line, Names::Short, " of ", other, "")?;
+    line.push_str(mark(row.role, verdict))?;
+    push_place(alloc, &mut line, files, number)?;
     push_line(out, line.as_str())
 }
 

@@ -2,7 +2,7 @@
 ghost use Rattle.std.specs.Prelude.{◌≡◌, ◌+◌, ◌++◌, ◌≤◌, true, IfOk, OnOk, drop, length, take, string_bytes};
 ghost use Rattle.std.specs.List.{list_all};
 ghost use Rattle.std.specs.Str.{IsUtf8, chars};
-ghost use Rattle.aud_explanation.specs.Page.{columns, fits, word_fits, ends_line, placed, next_column, laid, laid_line, blanks, to_left};
+ghost use Rattle.aud_explanation.specs.Page.{columns, fits, word_fits, placed, next_column, laid, laid_line, blanks, to_left};
 ghost use Rattle.aud_explanation.specs.Private.Front.{is_plain, stays_together};
 
 use crate::escape::{is_hidden, push_shown};
@@ -55,19 +55,8 @@ fn word_fits(column: usize, text: &str) -> bool
     true
 }
 
-/// Whether the line ends at this character: at a blank before a word that does not stand within it.
-fn ends_line(column: usize, c: char, rest: &str) -> bool
-    requires { column ≤ 100 }
-    ensures { result ≡ ends_line column c (chars rest.now) }
-{
-    if c == ' ' {
-        !word_fits(column + 1, rest)
-    } else {
-        false
-    }
-}
-
-/// Puts the character at the end, in the next line where this one is full: the column after it.
+/// Puts the character at the end, in the next line where this one is full: the column after it. The line ends at a blank
+/// before a word that does not stand within it.
 fn push_char(out: &mut String, column: usize, c: char, rest: &str) -> Result<usize, AllocError>
     requires { column ≤ 100 }
     ensures text { OnOk result (string_bytes out.new
@@ -75,7 +64,7 @@ fn push_char(out: &mut String, column: usize, c: char, rest: &str) -> Result<usi
     ensures next { IfOk result (λ next. next ≡ next_column column c (chars rest.now)) }
     ensures within { IfOk result (λ next. next ≤ 100) }
 {
-    if ends_line(column, c, rest) {
+    if c == ' ' && !word_fits(column + 1, rest) {
         out.push_str("\n        ")?;
         return Ok(INDENT);
     }

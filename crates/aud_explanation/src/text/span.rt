@@ -1,6 +1,6 @@
 //! Numbers, in words.
 ghost use Rattle.std.specs.Prelude.{◌≡◌, ◌++◌, OnOk, string_bytes};
-ghost use Rattle.aud_explanation.specs.Span.{known_words, line_word, lines_listed, span};
+ghost use Rattle.aud_explanation.specs.Span.{known_words, lines_listed, span};
 
 use std::alloc::AllocError;
 
@@ -30,21 +30,11 @@ pub(crate) fn push_known(
     }
 }
 
-/// The word for these lines.
-fn line_word(lines: &[u64]) -> &'static str
-    ensures { result.now ≡ line_word lines.now }
-{
-    match lines {
-        [_] => "line",
-        _ => "lines",
-    }
-}
-
 /// Puts the lines at the end: `line 28`, or `lines 28 36`.
 pub(crate) fn push_lines(out: &mut String, lines: &[u64]) -> Result<(), AllocError>
     ensures { OnOk result (string_bytes out.new ≡ string_bytes out.old ++ lines_listed lines.now) }
 {
-    out.push_str(line_word(lines))?;
+    out.push_str(if lines.len() == 1 { "line" } else { "lines" })?;
     for number in lines {
         write!(out, " {number}")?;
     }

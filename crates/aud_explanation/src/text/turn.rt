@@ -1,6 +1,6 @@
 //! The rows of the turns.
 ghost use Rattle.std.specs.Prelude.{◌≡◌, ◌++◌, OnOk, string_bytes};
-ghost use Rattle.aud_explanation.specs.TurnText.{begin_name, end_words, ending, node_width, rows_text, took_words, turn_text, turns_text};
+ghost use Rattle.aud_explanation.specs.TurnText.{end_words, node_width, rows_text, took_words, turn_text, turns_text};
 
 use crate::long::{first_shown, last_shown, left_out, push_more};
 use crate::text::page::{push_left, push_line};
@@ -19,16 +19,6 @@ fn node_width(turns: &[TurnShown<'_>]) -> usize
     width
 }
 
-/// The record by which a turn begins, and the word for the cursor there.
-fn begin_name(begin: TurnBegin) -> &'static str
-    ensures { result.now ≡ begin_name begin }
-{
-    match begin {
-        TurnBegin::Open => " open, cursor ",
-        TurnBegin::Back => " back, cursor ",
-    }
-}
-
 /// Puts what a node took in a turn at the end.
 fn push_took(line: &mut String, took: Option<(u64, u64)>) -> Result<(), AllocError>
     ensures { OnOk result (string_bytes line.new ≡ string_bytes line.old ++ took_words took) }
@@ -44,21 +34,13 @@ fn push_took(line: &mut String, took: Option<(u64, u64)>) -> Result<(), AllocErr
 }
 
 /// Puts the line on which a turn ends at the end, how it does, and the cursor there.
-fn push_ending(line: &mut String, at: u64, how: &str, cursor: u64) -> Result<(), AllocError>
-    ensures { OnOk result (string_bytes line.new
-        ≡ string_bytes line.old ++ ending at how.now cursor) }
-{
-    write!(line, " {at}{how}{cursor}")
-}
-
-/// Puts how a turn ends at the end, and the cursor there.
 fn push_end(line: &mut String, end: TurnEnd) -> Result<(), AllocError>
     ensures { OnOk result (string_bytes line.new ≡ string_bytes line.old ++ end_words end) }
 {
     match end {
-        TurnEnd::Break { line: at, high } => push_ending(line, at, " break, cursor ", high),
-        TurnEnd::Gone { line: at, high } => push_ending(line, at, " gone, cursor ", high),
-        TurnEnd::Log { line: at, high } => push_ending(line, at, " log ends, cursor ", high),
+        TurnEnd::Break { line: at, high } => write!(line, " {at} break, cursor {high}"),
+        TurnEnd::Gone { line: at, high } => write!(line, " {at} gone, cursor {high}"),
+        TurnEnd::Log { line: at, high } => write!(line, " {at} log ends, cursor {high}"),
         TurnEnd::Missing => line.push_str(" no break  <- missing"),
     }
 }
@@ -76,8 +58,11 @@ fn push_turn(
     let (number, at, low) = (turn.turn, turn.begin_line, turn.low);
     let mut line = format!(in alloc; "    turn {number}  ")?;
     push_left(&mut line, turn.node, width)?;
-    let begin = begin_name(turn.begin);
-    write!(&mut line, "  {at}{begin}{low} ==")?;
+    let begin = match turn.begin {
+        TurnBegin::Open => "open",
+        TurnBegin::Back => "back",
+    };
+    write!(&mut line, "  {at} {begin}, cursor {low} ==")?;
     push_took(&mut line, turn.took)?;
     push_end(&mut line, turn.end)?;
     push_line(out, line.as_str())

@@ -1,9 +1,0 @@
-use Rattle.std.proofs.Common.{false, arith}
-use Rattle.std.proofs.lemmas.Fmt.{hex_byte}
-use Rattle.std.proofs.lemmas.Grind.{common_steps}
-use Rattle.aud_explanation.proofs.escape.push_hex.Goals as goal
-
-pub returns : goal.returns
-returns c =
-    let digits = hex_byte false c.args.byte c.requires in
-    grind (arith, common_steps)
