@@ -80,10 +80,6 @@ asked_past due f = option_and_then (λ after. cause_if (nat_le f.parted.position
 
 -- ---- the causes, in their order
 
--- the cause, if it holds, before these
-abbrev pub cause_and : Option Cause → List Cause → List Cause
-cause_and cause causes = option_to_list cause ++ causes
-
 -- of an entry that came twice, where this holds of a body of polling: the node was behind the break; the node sent again
 -- what it had replayed; the replay began at the offset; the offset was stale; that of the body; it came twice in the
 -- replay, or while the client was connected

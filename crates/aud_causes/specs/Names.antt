@@ -21,7 +21,8 @@ use Rattle.aud_causes.specs.Orphans.{is_disconnect, last_of_stay}
 -- the stay with this number of the client's tap at this place has no reply; and the client asked in it for a session, or it
 -- doesn't end by a DISCONNECT: so its CONNECT has no answer, or a CONNECT_ERROR for one, or the answer is missing
 abbrev pub is_unanswered : Cluster → ℕ → ℕ → StaySeen → Bool
-is_unanswered c client number stay = is_none stay.reply && (is_some stay.asked || not (is_disconnect (last_of_stay c client number)))
+is_unanswered c client number stay =
+    is_none stay.reply && (is_some stay.asked || not (is_disconnect stay.nsp (last_of_stay c client number)))
 
 -- one of these stays is such a one; they count on from this number
 abbrev pub has_unanswered : Cluster → ℕ → ℕ → List StaySeen → Bool

@@ -10,7 +10,6 @@ use Rattle.aud_refusals.specs.declared.no_packet.NoPacket.{NoPacket}
 use Rattle.aud_refusals.specs.declared.no_packet.Refusal.{Refusal}
 use Rattle.aud_refusals.specs.declared.no_packet.Refusal.TheVariants.{Engine, Socket, Payload}
 use Rattle.aud_refusals.specs.declared.no_packet.PayloadFault.TheVariants as payload
-use Rattle.aud_refusals.specs.declared.no_json.NoJson.{NoJson}
 use Rattle.aud_refusals.specs.declared.no_json.NoJson.TheVariants as json
 use Rattle.aud_refusals.specs.NoPacket.{no_packet_at}
 use Rattle.aud_causes.specs.declared.why.Figure.{Figure}
@@ -38,13 +37,6 @@ abbrev pub no_packet_figures : Option NoPacket → List Figure
 no_packet_figures None = []
 no_packet_figures (Some found) = option_to_list (option_map Number found.packet) ++ Refused found.refusal ∷ []
 
--- what to do about a payload that is no JSON
-abbrev pub json_advice : NoJson → List ℕ
-json_advice (json.Deep depth) = codes "send lists and objects that nest at most 127 deep."
-json_advice (json.HalfPair at) = codes "send texts of whole characters: cut no surrogate pair in two."
-json_advice (json.Number at) = codes "send numbers that a 64-bit float holds, and others as texts."
-json_advice why = codes "send JSON (RFC 8259), which has no NaN and no Infinity; record a text as it came, to its end."
-
 -- what to do about the refusal, of a packet with a number where it is of a polling body
 abbrev pub refusal_advice : Refusal → Option ℕ → List ℕ
 refusal_advice (Engine fault) (Some number) = codes "record bodies of polling as they came, and of answers with status 200 alone."
@@ -52,7 +44,11 @@ refusal_advice (Socket sio.TextWhileBinary) packet = codes "look at the records 
 refusal_advice (Socket sio.StrayBinary) packet = codes "look at the records before this one: the packet of this attachment is not among them."
 refusal_advice (Socket sio.Attachments) packet = codes "send at most 64 attachments with an event."
 refusal_advice (Socket sio.AckId) packet = codes "use acknowledgement ids of at most 18 digits."
-refusal_advice (Payload (payload.NoJson why)) packet = json_advice why
+refusal_advice (Payload (payload.NoJson (json.Deep depth))) packet = codes "send lists and objects that nest at most 127 deep."
+refusal_advice (Payload (payload.NoJson (json.HalfPair at))) packet = codes "send texts of whole characters: cut no surrogate pair in two."
+refusal_advice (Payload (payload.NoJson (json.Number at))) packet = codes "send numbers that a 64-bit float holds, and others as texts."
+refusal_advice (Payload (payload.NoJson why)) packet =
+    codes "send JSON (RFC 8259), which has no NaN and no Infinity; record a text as it came, to its end."
 refusal_advice (Payload payload.Missing) packet = codes "send an event's name and its arguments as a list."
 refusal_advice (Payload payload.NoList) packet = codes "send an event's name and its arguments as a list."
 refusal_advice refusal packet = codes "record what came as it came: a text as a text, and bytes as bytes."

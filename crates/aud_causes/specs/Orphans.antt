@@ -1,20 +1,26 @@
 -- What events may come from of which nobody knows the session.
-use Rattle.std.specs.Prelude.{ℕ, suc, Bool, true, false, not, ◌&&◌, List, [], ◌∷◌, Option, Some, None, codes, is_none, is_some, if◌then◌else◌, nat_eq, slice_get, take}
-use Rattle.std.specs.List.{starts_with}
+use Rattle.std.specs.Prelude.{ℕ, suc, Bool, true, false, not, ◌&&◌, ◌||◌, ◌++◌, List, [], ◌∷◌, Option, Some, None, Result, Ok, Err, is_none, is_some, if◌then◌else◌, nat_eq, slice_get, take}
+use Rattle.std.specs.List.{list_any}
 use Rattle.std.specs.Option.{option_and_then}
+use Rattle.std.specs.Result.{result_ok}
 use Rattle.std.specs.Str.{bytes_eq}
 use Rattle.aud_tap.specs.declared.records.ClientRec.{ClientRec}
-use Rattle.aud_tap.specs.declared.records.ClientRec.TheVariants.{Conn, Lost, TextIn, TextOut}
+use Rattle.aud_tap.specs.declared.records.ClientRec.TheVariants.{Conn, Lost, TextOut}
+use Rattle.aud_eio.specs.Packet as eio
+use Rattle.aud_sio.specs.declared.fault.SioFault.{SioFault}
+use Rattle.aud_sio.specs.Packet.{PacketSeen, packet_of}
 use Rattle.aud_node.specs.Cluster.{Cluster}
+use Rattle.aud_node.specs.Stream.{Text}
 use Rattle.aud_client.specs.Replies.{ReplySeen}
 use Rattle.aud_client.specs.StayPlaces.{PlacesSeen}
+use Rattle.aud_client.specs.Stays.{is_disconnect_kind}
 use Rattle.aud_client.specs.StaySeen.{AskedSeen, StaySeen}
+use Rattle.aud_client.specs.TapPackets.{engine_packets, one_of}
 use Rattle.aud_session_facts.specs.Recoveries.{stays_at}
 use Rattle.aud_causes.specs.declared.cause.Cause.{Cause}
 use Rattle.aud_causes.specs.declared.cause.Cause.TheVariants.{TapBeganLate, CutBeforeReply, ReplyMissing, ReplyWithoutPid, OutAfterAnswer, SecondConnect, AfterDisconnect}
 use Rattle.aud_causes.specs.Bodies.{client_record, places_at}
-use Rattle.aud_causes.specs.Delivery.{cause_if}
-use Rattle.aud_causes.specs.Differences.{cause_and}
+use Rattle.aud_causes.specs.Delivery.{cause_if, held}
 
 -- ---- the stay before it
 
@@ -33,12 +39,32 @@ stay_before stays number stay = last_beside stay None 0 (take number stays)
 
 -- ---- how that ended
 
--- the record is a DISCONNECT of either side: Engine.IO's digit 4, and 1 (Socket.IO protocol 5, "Disconnection from a
+-- the packet that a message spells is a DISCONNECT of this namespace (Socket.IO protocol 5, "Disconnection from a
 -- namespace")
-abbrev pub is_disconnect : Option ClientRec → Bool
-is_disconnect (Some (TextIn t)) = starts_with nat_eq t (codes "41")
-is_disconnect (Some (TextOut t)) = starts_with nat_eq t (codes "41")
-is_disconnect _ = false
+abbrev pub spells_disconnect : Text → Result PacketSeen SioFault → Bool
+spells_disconnect nsp (Ok packet) = is_disconnect_kind packet.kind && bytes_eq packet.nsp nsp
+spells_disconnect nsp (Err fault) = false
+
+-- the Engine.IO packet carries one
+abbrev pub carries_disconnect : Text → eio.Packet → Bool
+carries_disconnect nsp (eio.Message text) = spells_disconnect nsp (packet_of text)
+carries_disconnect nsp packet = false
+
+-- one of these packets, if they are given, carries one
+abbrev pub carry_disconnect : Text → Option (List eio.Packet) → Bool
+carry_disconnect nsp None = false
+carry_disconnect nsp (Some packets) = list_any (carries_disconnect nsp) packets
+
+-- the record is of the client's packet, and that carries one
+abbrev pub sends_disconnect : Text → ClientRec → Bool
+sends_disconnect nsp (TextOut t) = carry_disconnect nsp (result_ok (one_of (eio.engine_packet_of t)))
+sends_disconnect nsp rec = false
+
+-- some packet of the record, if there is one, is a DISCONNECT of this namespace: one of the server's packets in it, or the
+-- client's packet
+abbrev pub is_disconnect : Text → Option ClientRec → Bool
+is_disconnect nsp None = false
+is_disconnect nsp (Some rec) = sends_disconnect nsp rec || carry_disconnect nsp (result_ok (engine_packets rec))
 
 -- the last record of the stay with this number of the client's tap at this place
 abbrev pub last_of_stay : Cluster → ℕ → ℕ → Option ClientRec
@@ -114,32 +140,32 @@ out_after_answer number before stay asked_first = cause_if (is_none stay.asked &
 -- the stay before was answered: and its CONNECT may be recorded after its answer; or anyhow
 abbrev pub answered_causes : ℕ → ℕ → StaySeen → Bool → List Cause
 answered_causes number before stay asked_first =
-    if is_some stay.reply then cause_and (out_after_answer number before stay asked_first) (SecondConnect before number ∷ []) else []
+    if is_some stay.reply then held (out_after_answer number before stay asked_first ∷ Some (SecondConnect before number) ∷ []) else []
 
 -- the stay before, if there is one, ended by a DISCONNECT; or else it was answered
-abbrev pub before_causes : Cluster → ℕ → ℕ → ℕ → Bool → Option StaySeen → List Cause
-before_causes c client number before true stay = AfterDisconnect before number ∷ []
-before_causes c client number before false None = []
-before_causes c client number before false (Some stay) = answered_causes number before stay (is_asked_first c client before)
+abbrev pub before_causes : Cluster → ℕ → ℕ → ℕ → Option StaySeen → List Cause
+before_causes c client number before None = []
+before_causes c client number before (Some stay) =
+    if is_disconnect stay.nsp (last_of_stay c client before)
+    then AfterDisconnect before number ∷ []
+    else answered_causes number before stay (is_asked_first c client before)
 
 -- the same of the stay with this number, if it is given
 abbrev pub causes_of_before : Cluster → ℕ → ℕ → Option ℕ → List Cause
 causes_of_before c client number None = []
-causes_of_before c client number (Some before) =
-    before_causes c client number before (is_disconnect (last_of_stay c client before)) (slice_get (stays_at c client) before)
+causes_of_before c client number (Some before) = before_causes c client number before (slice_get (stays_at c client) before)
 
--- of events in this stay, before which this one stands in its connection and namespace
-abbrev pub unreplied_causes : Cluster → ℕ → ℕ → StaySeen → Option ℕ → List Cause
-unreplied_causes c client number stay before =
-    cause_and
-    (without_reply number stay.asked (next_of_stay c client number) (began_late c client number stay))
-    (cause_and
-    (reply_lost client stay.asked (next_of_stay c client number))
-    (causes_of_before c client number before))
+-- of events in this stay, where it has no reply
+abbrev pub unreplied_causes : Cluster → ℕ → ℕ → StaySeen → List Cause
+unreplied_causes c client number stay =
+    held
+    (without_reply number stay.asked (next_of_stay c client number) (began_late c client number stay)
+    ∷ reply_lost client stay.asked (next_of_stay c client number) ∷ [])
+    ++ causes_of_before c client number (stay_before (stays_at c client) number stay)
 
 -- of events in a stay with this reply, or without one: the reply names nobody
 abbrev pub replied_causes : Cluster → ℕ → ℕ → StaySeen → Option ReplySeen → List Cause
-replied_causes c client number stay None = unreplied_causes c client number stay (stay_before (stays_at c client) number stay)
+replied_causes c client number stay None = unreplied_causes c client number stay
 replied_causes c client number stay (Some reply) = if is_some reply.pid then [] else ReplyWithoutPid number ∷ []
 
 -- of events in the stay with this number of the client's tap at this place

@@ -9,8 +9,7 @@ use Rattle.aud_session_facts.specs.declared.place.RecordPlace.{RecordPlace}
 use Rattle.aud_causes.specs.declared.cause.Cause.{Cause}
 use Rattle.aud_causes.specs.declared.cause.Cause.TheVariants.{TurnNotStored, RecoveredTwice, OpenedTwice}
 use Rattle.aud_causes.specs.declared.twice.Twice.{Twice}
-use Rattle.aud_causes.specs.Delivery.{cause_if}
-use Rattle.aud_causes.specs.Differences.{cause_and}
+use Rattle.aud_causes.specs.Delivery.{cause_if, held}
 use Rattle.aud_causes.specs.Turns.{is_turn}
 
 -- the turn for which the record takes the session back, if it is a `back`
@@ -100,7 +99,7 @@ recovered_twice t = cause_if (not (nat_eq t.first.node t.again.node)) (Recovered
 -- both, if there is such a turn: the turn was not stored with the session; two nodes took one stored session back
 abbrev pub causes_of_twice : List Bool → Bool → Option Twice → List Cause
 causes_of_twice ended as_often None = []
-causes_of_twice ended as_often (Some t) = cause_and (turn_not_stored ended as_often t) (cause_and (recovered_twice t) [])
+causes_of_twice ended as_often (Some t) = held (turn_not_stored ended as_often t ∷ recovered_twice t ∷ [])
 
 -- those of each of these records, where these are the turns' first begins, and whether their logs end them
 abbrev pub twice_causes : List (Option RecordPlace) → List Bool → Bool → List TurnMark → List Cause

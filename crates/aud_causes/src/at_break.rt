@@ -5,7 +5,7 @@ ghost use Rattle.aud_maker.specs.Made.{IsMade};
 ghost use Rattle.aud_causes.specs.AtBreak.{came_within, due_at_break, first_came, first_past, first_taken, is_by_rooms_at_break, rooms_at_break};
 
 use crate::cause::Cause;
-use crate::facts::{Facts, Replay, stay_at};
+use crate::facts::{Facts, Replay};
 use crate::list::front_of;
 use crate::live::is_replayed;
 use aud_cert::{Certificate, Turn};
@@ -123,7 +123,7 @@ fn came_within(
         ≡ came_within (slice_get (map (λ stay. stay.now) stays.now) number) replay) }
 {
     let mut came = Vec::new(alloc);
-    let Some(stay) = stay_at(stays, number) else {
+    let Some(stay) = stays.get(number).copied() else {
         return Ok(came);
     };
     for frame in &stay.frames {
@@ -140,7 +140,7 @@ pub(crate) fn first_taken(stays: &[&Stay<'_>], facts: Facts) -> Option<u64>
     ensures { result ≡ first_taken (map (λ stay. stay.now) stays.now) facts }
 {
     let replay = facts.replay?;
-    let stay = stay_at(stays, facts.later)?;
+    let stay = stays.get(facts.later).copied()?;
     first_past(&stay.frames, replay.low)
 }
 
@@ -148,7 +148,7 @@ pub(crate) fn first_taken(stays: &[&Stay<'_>], facts: Facts) -> Option<u64>
 pub(crate) fn first_came(stays: &[&Stay<'_>], facts: Facts) -> Option<u64>
     ensures { result ≡ first_came (map (λ stay. stay.now) stays.now) facts }
 {
-    let stay = stay_at(stays, facts.later)?;
+    let stay = stays.get(facts.later).copied()?;
     let frame = stay.frames.get(0)?;
     Some(frame.position)
 }

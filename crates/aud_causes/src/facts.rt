@@ -1,6 +1,5 @@
 //! What the causes of a difference go by.
 ghost use Rattle.std.specs.Prelude.{◌≡◌, map, slice_get};
-ghost use Rattle.std.specs.Option.{option_copied};
 ghost use Rattle.aud_causes.specs.Facts.{earlier_stay, facts_of, is_recovery, parted_at, replay_of};
 
 use aud_cert::Turn;
@@ -115,18 +114,11 @@ fn parted_at(stays: &[&Stay<'_>], difference: Difference) -> (Parted, usize)
     }
 }
 
-/// The stay with this number.
-pub(crate) fn stay_at<'s, 'a>(stays: &[&'s Stay<'a>], number: usize) -> Option<&'s Stay<'a>>
-    ensures { option_copied result ≡ slice_get (map (λ stay. stay.now) stays.now) number }
-{
-    stays.get(number).copied()
-}
-
 /// Whether the stay with this number is a recovery.
 pub(crate) fn is_recovery(stays: &[&Stay<'_>], number: usize) -> bool
     ensures { result ≡ is_recovery (slice_get (map (λ stay. stay.now) stays.now) number) }
 {
-    match stay_at(stays, number) {
+    match stays.get(number).copied() {
         Some(stay) => stay.is_recovered(),
         None => false,
     }

@@ -1,7 +1,7 @@
 //! A `leave` that no log has, of an entry that was lost.
 ghost use Rattle.std.specs.Prelude.{◌≡◌, IfOk};
 ghost use Rattle.aud_session_facts.specs.Opened.{opened_in};
-ghost use Rattle.aud_causes.specs.Leavable.{are_leavable, is_leavable, leave_missing, own_room};
+ghost use Rattle.aud_causes.specs.Leavable.{are_leavable, leave_missing, own_room};
 
 use crate::cause::Cause;
 use crate::changed::fits_with_any;
@@ -31,7 +31,7 @@ pub(crate) fn leave_missing(
 {
     let position = facts.parted.position;
     let rooms = rooms_named(logs.stream().entry(position));
-    if !is_leavable(turns, rooms, facts) {
+    if !is_taken_live(facts) || !are_leavable(own_room(turns), rooms) {
         return Ok(None);
     }
     if !fits_with_any(alloc, logs, pid, turns, spans, came, false, position, rooms)? {
@@ -40,14 +40,6 @@ pub(crate) fn leave_missing(
     Ok(Some(Cause::LeaveMissing {
         frame: facts.parted.again,
     }))
-}
-
-/// Whether the entry, which is for these rooms, was left out while the client was connected, and none of them is the
-/// session's own.
-fn is_leavable(turns: &[Turn<'_>], rooms: &[Text], facts: Facts) -> bool
-    ensures { result ≡ is_leavable turns.now rooms.now facts }
-{
-    is_taken_live(facts) && are_leavable(own_room(turns), rooms)
 }
 
 /// The room that is named by the sid of the session's `open`.

@@ -2,7 +2,7 @@
 ghost use Rattle.std.specs.Prelude.{◌≡◌, IfOk, length, map};
 ghost use Rattle.aud_client.specs.Received.{transcript_at};
 ghost use Rattle.aud_client.specs.Replies.{naming_places};
-ghost use Rattle.aud_causes.specs.Names.{client_causes, has_unanswered, has_unnamed, is_unanswered, names_causes, namespace_differs, reply_missing, sid_differs, unnamed_from};
+ghost use Rattle.aud_causes.specs.Names.{client_causes, has_unanswered, has_unnamed, is_unanswered, names_causes, namespace_differs, sid_differs, unnamed_from};
 
 use crate::bare::tap_without_packets;
 use crate::cause::Cause;
@@ -15,8 +15,7 @@ use aud_tap::Tap;
 use std::alloc::{AllocError, Global};
 
 /// Where not exactly one client's tap names the session. Where none does it costs the stays of the clients' taps, up to
-/// the first that was not answered, and the session's own records; of a stay without a reply its last record is looked
-/// at.
+/// the first that was not answered, and the session's own records; of a stay without a reply it reads the last record.
 pub(crate) fn client_causes(
     alloc: Global,
     recording: &Recording<'_>,
@@ -29,71 +28,81 @@ pub(crate) fn client_causes(
     match recording.naming(pid).len() {
         0 => {
             let bare = tap_without_packets(alloc, recording.logs(), pid)?;
-            held(
-                alloc,
-                &[Some(Cause::NoClientTap), reply_missing(recording), bare],
-            )
+            let client = unnamed_from(alloc, recording, recording.logs().taps())?;
+            let missing = client.map(|client| Cause::ReplyMissing { client });
+            held(alloc, &[Some(Cause::NoClientTap), missing, bare])
         }
         1 => Ok(Vec::new(alloc)),
         taps => held(alloc, &[Some(Cause::TwoTaps { taps })]),
     }
 }
 
-/// Where a client's tap has a CONNECT or events of no known session: the first such tap.
-fn reply_missing(recording: &Recording<'_>) -> Option<Cause>
-    ensures { result ≡ reply_missing recording.now }
-{
-    let client = unnamed_from(recording, recording.logs().taps())?;
-    Some(Cause::ReplyMissing { client })
-}
-
 /// The place of the first client's tap with a CONNECT or events of no known session, among these taps, which are all.
-fn unnamed_from(recording: &Recording<'_>, taps: &[Tap]) -> Option<usize>
-    ensures { result ≡ unnamed_from recording.now 0 taps.now }
+fn unnamed_from(
+    alloc: Global,
+    recording: &Recording<'_>,
+    taps: &[Tap],
+) -> Result<Option<usize>, AllocError>
+    ensures { IfOk result (λ found. found ≡ unnamed_from recording.now 0 taps.now) }
 {
     for place in 0..taps.len() {
-        if has_unnamed(recording, place) {
-            return Some(place);
+        if has_unnamed(alloc, recording, place)? {
+            return Ok(Some(place));
         }
     }
-    None
+    Ok(None)
 }
 
 /// Whether the tap at this place has events in a stay whose reply names nobody, or that has none; or a stay that was not
 /// answered.
-fn has_unnamed(recording: &Recording<'_>, place: usize) -> bool
-    ensures { result ≡ has_unnamed recording.now place (transcript_at recording.now place) }
+fn has_unnamed(alloc: Global, recording: &Recording<'_>, place: usize) -> Result<bool, AllocError>
+    ensures { IfOk result (λ has. has
+        ≡ has_unnamed recording.now place (transcript_at recording.now place)) }
 {
-    match recording.client(place) {
-        Some(client) => {
-            let transcript = client.transcript();
-            transcript.orphan || has_unanswered(recording, place, transcript.stays.as_slice())
-        }
-        None => false,
+    let Some(client) = recording.client(place) else {
+        return Ok(false);
+    };
+    let transcript = client.transcript();
+    if transcript.orphan {
+        return Ok(true);
     }
+    has_unanswered(alloc, recording, place, transcript.stays.as_slice())
 }
 
 /// Whether one of these stays, which are all of the client's tap at this place, was not answered.
-fn has_unanswered(recording: &Recording<'_>, client: usize, stays: &[Stay<'_>]) -> bool
-    ensures { result ≡ has_unanswered recording.now client 0 stays.now }
+fn has_unanswered(
+    alloc: Global,
+    recording: &Recording<'_>,
+    client: usize,
+    stays: &[Stay<'_>],
+) -> Result<bool, AllocError>
+    ensures { IfOk result (λ has. has ≡ has_unanswered recording.now client 0 stays.now) }
 {
     for (number, stay) in stays.iter().enumerate() {
-        if is_unanswered(recording, client, number, stay) {
-            return true;
+        if is_unanswered(alloc, recording, client, number, stay)? {
+            return Ok(true);
         }
     }
-    false
+    Ok(false)
 }
 
 /// Whether the stay with this number has no reply; and the client asked in it for a session, or it doesn't end by a
 /// DISCONNECT.
-fn is_unanswered(recording: &Recording<'_>, client: usize, number: usize, stay: &Stay<'_>) -> bool
-    ensures { result ≡ is_unanswered recording.now client number stay.now }
+fn is_unanswered(
+    alloc: Global,
+    recording: &Recording<'_>,
+    client: usize,
+    number: usize,
+    stay: &Stay<'_>,
+) -> Result<bool, AllocError>
+    ensures { IfOk result (λ is. is ≡ is_unanswered recording.now client number stay.now) }
 {
     if stay.reply.is_some() {
-        return false;
+        return Ok(false);
     }
-    stay.asked.is_some() || !is_disconnect(last_of_stay(recording, client, number))
+    let last = last_of_stay(recording, client, number);
+    let ended = is_disconnect(alloc, stay.nsp, last)?;
+    Ok(stay.asked.is_some() || !ended)
 }
 
 /// What differs between the replies in these stays, which name the session, and the session's `open`, where these are its

@@ -1,6 +1,6 @@
 //! Why a record of the client's tap is no packet, and what to do about it.
 ghost use Rattle.std.specs.Prelude.{◌≡◌, IfOk, flat_map, option_to_list};
-ghost use Rattle.aud_causes.specs.NoPacket.{advice, json_advice, no_packet_figures, no_packet_in, no_packet_words, refusal_advice};
+ghost use Rattle.aud_causes.specs.NoPacket.{advice, no_packet_figures, no_packet_in, no_packet_words, refusal_advice};
 
 use crate::why::Figure;
 use aud_client::Recording;
@@ -69,19 +69,6 @@ pub(crate) fn advice(why: Option<NoPacket>) -> &'static str
     }
 }
 
-/// What to do about a payload that is no JSON.
-fn json_advice(why: NoJson) -> &'static str
-    ensures { result.now ≡ json_advice why }
-{
-    match why {
-        NoJson::Deep(_) => "send lists and objects that nest at most 127 deep.",
-        NoJson::HalfPair(_) => "send texts of whole characters: cut no surrogate pair in two.",
-        NoJson::Number(_) => "send numbers that a 64-bit float holds, and others as texts.",
-        _ =>
-            "send JSON (RFC 8259), which has no NaN and no Infinity; record a text as it came, to its end.",
-    }
-}
-
 /// What to do about this refusal, of a packet with a number where it is of a polling body.
 fn refusal_advice(refusal: Refusal, packet: Option<usize>) -> &'static str
     ensures { result.now ≡ refusal_advice refusal packet }
@@ -95,7 +82,14 @@ fn refusal_advice(refusal: Refusal, packet: Option<usize>) -> &'static str
             "look at the records before this one: the packet of this attachment is not among them.",
         (Refusal::Socket(SioFault::Attachments), _) => "send at most 64 attachments with an event.",
         (Refusal::Socket(SioFault::AckId), _) => "use acknowledgement ids of at most 18 digits.",
-        (Refusal::Payload(PayloadFault::NoJson(why)), _) => json_advice(why),
+        (Refusal::Payload(PayloadFault::NoJson(NoJson::Deep(_))), _) =>
+            "send lists and objects that nest at most 127 deep.",
+        (Refusal::Payload(PayloadFault::NoJson(NoJson::HalfPair(_))), _) =>
+            "send texts of whole characters: cut no surrogate pair in two.",
+        (Refusal::Payload(PayloadFault::NoJson(NoJson::Number(_))), _) =>
+            "send numbers that a 64-bit float holds, and others as texts.",
+        (Refusal::Payload(PayloadFault::NoJson(_)), _) =>
+            "send JSON (RFC 8259), which has no NaN and no Infinity; record a text as it came, to its end.",
         (Refusal::Payload(_), _) => "send an event's name and its arguments as a list.",
         _ => "record what came as it came: a text as a text, and bytes as bytes.",
     }

@@ -1,18 +1,23 @@
 //! What events may come from of which nobody knows the session.
-ghost use Rattle.std.specs.Prelude.{◌≡◌, ◌++◌, IfOk, None, OnOk, slice_get};
+ghost use Rattle.std.specs.Prelude.{◌≡◌, ◌++◌, IfOk, None, OnOk, map, slice_get};
+ghost use Rattle.std.specs.List.{list_any};
 ghost use Rattle.std.specs.Option.{option_copied};
+ghost use Rattle.aud_eio.specs.Packet.{engine_view};
 ghost use Rattle.aud_session_facts.specs.Recoveries.{stays_at};
-ghost use Rattle.aud_causes.specs.Orphans.{began_late, causes_of_before, is_asked_first, is_disconnect, last_beside, last_of_stay, next_of_stay, orphan_at, replied_causes, reply_lost, stay_before, unreplied_causes, without_reply};
+ghost use Rattle.aud_causes.specs.Orphans.{began_late, carries_disconnect, causes_of_before, is_asked_first, is_disconnect, last_beside, last_of_stay, next_of_stay, orphan_at, reply_lost, sends_disconnect, stay_before, unreplied_causes, without_reply};
 
 use crate::bodies::{client_record, places_at};
 use crate::cause::Cause;
 use crate::list::{front_of, held, push_some};
 use aud_client::{Recording, Stay};
+use aud_eio::{Eio, EioFault, decode_text};
+use aud_rows::packets_of;
+use aud_sio::{PacketKind, SioFault, decode};
 use aud_tap::ClientRec;
 use std::alloc::{AllocError, Global};
 
 /// The causes of events in the stay with this number, if there is one, of the client's tap at this place: its reply names
-/// nobody, or there is none. It costs the stays before it.
+/// nobody, or there is none. It costs the stays before it, and reads the last record of one of them.
 pub(crate) fn orphan_at(
     alloc: Global,
     recording: &Recording<'_>,
@@ -24,9 +29,13 @@ pub(crate) fn orphan_at(
     let Some(number) = orphan else {
         return Ok(Vec::new(alloc));
     };
-    match stay_in(recording, client, number) {
-        Some(stay) => replied_causes(alloc, recording, client, number, stay),
-        None => Ok(Vec::new(alloc)),
+    let Some(stay) = stay_in(recording, client, number) else {
+        return Ok(Vec::new(alloc));
+    };
+    match &stay.reply {
+        Some(reply) if reply.pid.is_some() => Ok(Vec::new(alloc)),
+        Some(_) => held(alloc, &[Some(Cause::ReplyWithoutPid { stay: number })]),
+        None => unreplied_causes(alloc, recording, client, number, stay),
     }
 }
 
@@ -44,45 +53,20 @@ fn stay_in<'r, 'a>(
     }
 }
 
-/// The causes of events in this stay: the reply names nobody, or there is none.
-fn replied_causes(
-    alloc: Global,
-    recording: &Recording<'_>,
-    client: usize,
-    number: usize,
-    stay: &Stay<'_>,
-) -> Result<Vec<Cause>, AllocError>
-    ensures { IfOk result (λ found. found.items
-        ≡ replied_causes recording.now client number stay.now stay.now.reply) }
-{
-    match &stay.reply {
-        Some(reply) if reply.pid.is_some() => Ok(Vec::new(alloc)),
-        Some(_) => held(alloc, &[Some(Cause::ReplyWithoutPid { stay: number })]),
-        None => unreplied_causes(
-            alloc,
-            recording,
-            client,
-            number,
-            stay,
-            stay_before(recording, client, number, stay),
-        ),
-    }
-}
-
-/// The causes where there is none, and this is the stay before it in its connection and namespace.
+/// The causes of events in this stay, which has no reply.
 fn unreplied_causes(
     alloc: Global,
     recording: &Recording<'_>,
     client: usize,
     number: usize,
     stay: &Stay<'_>,
-    before: Option<usize>,
 ) -> Result<Vec<Cause>, AllocError>
     ensures { IfOk result (λ found. found.items
-        ≡ unreplied_causes recording.now client number stay.now before) }
+        ≡ unreplied_causes recording.now client number stay.now) }
 {
     let late = began_late(recording, client, number, stay);
     let next = next_of_stay(recording, client, number);
+    let before = stay_before(recording, client, number, stay);
     let mut found = held(
         alloc,
         &[
@@ -90,7 +74,7 @@ fn unreplied_causes(
             reply_lost(client, stay, next),
         ],
     )?;
-    push_before(&mut found, recording, client, number, before)?;
+    push_before(alloc, recording, &mut found, client, number, before)?;
     Ok(found)
 }
 
@@ -194,8 +178,9 @@ fn last_beside(stay: &Stay<'_>, stays: &[Stay<'_>]) -> Option<usize>
 
 /// Adds the causes of the stay before, if there is one: it ended by a DISCONNECT; or it was answered.
 fn push_before(
-    found: &mut Vec<Cause>,
+    alloc: Global,
     recording: &Recording<'_>,
+    found: &mut Vec<Cause>,
     client: usize,
     number: usize,
     before: Option<usize>,
@@ -206,16 +191,17 @@ fn push_before(
     let Some(before) = before else {
         return Ok(());
     };
-    if is_disconnect(last_of_stay(recording, client, before)) {
+    let Some(stay) = stay_in(recording, client, before) else {
+        return Ok(());
+    };
+    let last = last_of_stay(recording, client, before);
+    if is_disconnect(alloc, stay.nsp, last)? {
         let cause = Cause::AfterDisconnect {
             before,
             stay: number,
         };
         return push_some(found, Some(cause));
     }
-    let Some(stay) = stay_in(recording, client, before) else {
-        return Ok(());
-    };
     if stay.reply.is_none() {
         return Ok(());
     }
@@ -245,14 +231,65 @@ pub(crate) fn last_of_stay<'a>(
     client_record(recording, client, places.last as usize)
 }
 
-/// Whether the record is a DISCONNECT of either side.
-pub(crate) fn is_disconnect(rec: Option<&ClientRec>) -> bool
-    ensures { result ≡ is_disconnect (option_copied rec.entry) }
+/// Whether some packet of the record, if there is one, is a DISCONNECT of this namespace: one of the server's packets in
+/// it, or the client's packet.
+pub(crate) fn is_disconnect(
+    alloc: Global,
+    nsp: &str,
+    rec: Option<&ClientRec>,
+) -> Result<bool, AllocError>
+    ensures { IfOk result (λ is. is ≡ is_disconnect nsp.now (option_copied rec.entry)) }
 {
-    match rec {
-        Some(ClientRec::TextIn { t } | ClientRec::TextOut { t }) => {
-            t.as_str().as_bytes().starts_with(b"41")
+    let Some(rec) = rec else {
+        return Ok(false);
+    };
+    if sends_disconnect(alloc, nsp, rec)? {
+        return Ok(true);
+    }
+    match packets_of(alloc, rec)? {
+        Some(packets) => carry_disconnect(alloc, nsp, packets.as_slice()),
+        None => Ok(false),
+    }
+}
+
+/// Whether the record is of the client's packet, and that is a DISCONNECT of this namespace.
+fn sends_disconnect(alloc: Global, nsp: &str, rec: &ClientRec) -> Result<bool, AllocError>
+    ensures { IfOk result (λ sends. sends ≡ sends_disconnect nsp.now rec.now) }
+{
+    let ClientRec::TextOut { t } = rec else {
+        return Ok(false);
+    };
+    match decode_text(alloc, t.as_str()) {
+        Ok(packet) => carries_disconnect(alloc, nsp, &packet),
+        Err(EioFault::Memory) => Err(AllocError),
+        Err(_) => Ok(false),
+    }
+}
+
+/// Whether one of these packets is a DISCONNECT of this namespace.
+fn carry_disconnect(alloc: Global, nsp: &str, packets: &[Eio<'_>]) -> Result<bool, AllocError>
+    ensures { IfOk result (λ carry. carry
+        ≡ list_any (carries_disconnect nsp.now) (map engine_view packets.now)) }
+{
+    for packet in packets {
+        if carries_disconnect(alloc, nsp, packet)? {
+            return Ok(true);
         }
-        _ => false,
+    }
+    Ok(false)
+}
+
+/// Whether the packet is a DISCONNECT of this namespace.
+fn carries_disconnect(alloc: Global, nsp: &str, packet: &Eio<'_>) -> Result<bool, AllocError>
+    ensures { IfOk result (λ carries. carries
+        ≡ carries_disconnect nsp.now (engine_view packet.now)) }
+{
+    let Eio::Message(text) = packet else {
+        return Ok(false);
+    };
+    match decode(alloc, text) {
+        Ok(packet) => Ok(matches!(packet.kind, PacketKind::Disconnect) && packet.nsp == nsp),
+        Err(SioFault::Memory) => Err(AllocError),
+        Err(_) => Ok(false),
     }
 }

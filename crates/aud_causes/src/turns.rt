@@ -3,7 +3,7 @@ ghost use Rattle.std.specs.Prelude.{◌≡◌, ◌++◌, ◌<◌, IfOk, OnOk, le
 ghost use Rattle.std.specs.Option.{option_copied};
 ghost use Rattle.aud_causes.specs.Chain.{causes_of_marks, chain_causes};
 ghost use Rattle.aud_causes.specs.Private.Noting.{break_in, with_begin};
-ghost use Rattle.aud_causes.specs.Turns.{after_begin, begins_of, begun_turn, breaks_of, broken_turn, ended_by, ends_of, is_after_begin, is_untapped, missing_back, missing_break, missing_breaks, missing_causes, not_tapped, recovery_after, turn_count, unbegun};
+ghost use Rattle.aud_causes.specs.Turns.{after_begin, begins_of, begun_turn, breaks_of, broken_turn, ended_by, ends_of, is_after_begin, is_untapped, missing_back, missing_break, missing_breaks, not_tapped, recovery_after, turn_count, unbegun};
 
 use crate::cause::Cause;
 use crate::cleared::push_cleared;
@@ -48,30 +48,14 @@ fn causes_of_marks(
     ensures { IfOk result (λ found. found.items
         ≡ causes_of_marks logs.now pid.now marks.now begins.now ended.now came.now) }
 {
-    let mut found = missing_causes(alloc, marks, begins, ended, came)?;
-    push_cleared(logs, pid, &mut found)?;
-    push_twice(&mut found, begins, ended, is_as_often(marks, came), marks)?;
-    push_some(&mut found, opened_twice(marks))?;
-    Ok(found)
-}
-
-/// Those of the turns of which no log has the begin, or the break, where these are the turns' begins, whether their logs
-/// end them, and the recoveries.
-fn missing_causes(
-    alloc: Global,
-    marks: &[TurnMark],
-    begins: &[Option<RecordPlace>],
-    ended: &[bool],
-    came: &[usize],
-) -> Result<Vec<Cause>, AllocError>
-    ensures { IfOk result (λ found. found.items
-        ≡ missing_causes marks.now begins.now (breaks_of marks.now) ended.now came.now) }
-{
     let broken = breaks_of(alloc, marks)?;
     let mut found = Vec::new(alloc);
     push_some(&mut found, not_tapped(begins, &broken))?;
     push_some(&mut found, missing_back(marks, begins))?;
     push_missing(&mut found, begins, &broken, ended, came)?;
+    push_cleared(logs, pid, &mut found)?;
+    push_twice(&mut found, begins, ended, is_as_often(marks, came), marks)?;
+    push_some(&mut found, opened_twice(marks))?;
     Ok(found)
 }
 

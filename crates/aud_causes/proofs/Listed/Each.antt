@@ -9,7 +9,6 @@ use Rattle.aud_cert.specs.declared.fault.Fault.{Fault}
 use Rattle.aud_causes.specs.declared.cause.Cause.{Cause}
 use Rattle.aud_causes.specs.Candidates.{is_candidate}
 use Rattle.aud_causes.specs.Delivery.{cause_if, held}
-use Rattle.aud_causes.specs.Differences.{cause_and}
 use Rattle.aud_causes.specs.Words.{id_text}
 
 -- the fault's list has the name of the cause
@@ -39,9 +38,6 @@ module _ (p : Cause → Bool) where
   pub of_each : {X : Type 0} (f : X → List Cause) → ((x : X) → list_all p (f x) ≡ true) → (xs : List X) → list_all p (flat_map f xs) ≡ true
   of_each f h [] = refl
   of_each f h (x ∷ xs) = of_both (f x) (flat_map f xs) (h x) (of_each f h xs)
-
-  pub of_and : (o : Option Cause) (causes : List Cause) → OfSome o → list_all p causes ≡ true → list_all p (cause_and o causes) ≡ true
-  of_and o causes first rest = of_both (option_to_list o) causes (of_list o first) rest
 
   -- ---- of an Option
 

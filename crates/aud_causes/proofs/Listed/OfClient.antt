@@ -12,11 +12,11 @@ use Rattle.aud_cert.specs.declared.fault.Fault.TheVariants as fault
 use Rattle.aud_session_facts.specs.Opened.{opened_in}
 use Rattle.aud_session_facts.specs.Recoveries.{stays_at}
 use Rattle.aud_causes.specs.declared.cause.Cause.{Cause}
-use Rattle.aud_causes.specs.declared.cause.Cause.TheVariants.{CutBeforeReply, NamespaceDiffers, OutAfterAnswer, ReplyMissing, ReplyWithoutPid, SecondConnect, SidDiffers, TapBeganLate}
+use Rattle.aud_causes.specs.declared.cause.Cause.TheVariants.{AfterDisconnect, CutBeforeReply, NamespaceDiffers, OutAfterAnswer, ReplyMissing, ReplyWithoutPid, SecondConnect, SidDiffers, TapBeganLate}
 use Rattle.aud_causes.specs.Names.{names_by, names_causes, namespace_differs, other_namespace, other_sid, sid_differs}
-use Rattle.aud_causes.specs.Differences.{cause_and}
+use Rattle.aud_causes.specs.Delivery.{held}
 use Rattle.aud_causes.specs.Orphans.{answered_causes, before_causes, began_late, causes_of_before, is_asked_first, is_cut, is_disconnect, last_of_stay, may_be_cut, next_of_stay, orphan_at, orphan_causes_of, out_after_answer, replied_causes, reply_lost, stay_before, unreplied_causes, without_reply}
-use Rattle.aud_causes.proofs.Listed.Each.{OfSome, is_listed, of_and, of_held, of_if, of_map}
+use Rattle.aud_causes.proofs.Listed.Each.{OfSome, is_listed, of_both, of_held, of_if, of_map}
 
 -- ---- NAMES
 
@@ -39,10 +39,10 @@ names_listed turns stays = opened_listed (opened_in turns) stays
 abbrev in_orphan : Cause → Bool
 in_orphan = is_listed fault.Orphan
 
--- a list that is told where a test holds
-list_if : (b : Bool) (causes : List Cause) → list_all in_orphan causes ≡ true → list_all in_orphan (cond b causes []) ≡ true
-list_if true causes h = h
-list_if false causes h = refl
+-- one list, or another
+list_choice : (b : Bool) (one other : List Cause) → list_all in_orphan one ≡ true → list_all in_orphan other ≡ true → list_all in_orphan (cond b one other) ≡ true
+list_choice true one other h k = h
+list_choice false one other h k = k
 
 without_listed : (number : ℕ) (asked : Option AskedSeen) (next : Option ClientRec) (late : Bool) → OfSome in_orphan (without_reply number asked next late)
 without_listed number (Some asked) next late = of_if in_orphan (may_be_cut next) (CutBeforeReply number) refl
@@ -53,34 +53,35 @@ lost_listed client asked next = of_if in_orphan (is_some asked && not (is_cut ne
 
 answered_listed : (number before : ℕ) (stay : StaySeen) (first : Bool) → list_all in_orphan (answered_causes number before stay first) ≡ true
 answered_listed number before stay first =
-    list_if (is_some stay.reply) (cause_and (out_after_answer number before stay first) (SecondConnect before number ∷ []))
-    (of_and in_orphan (out_after_answer number before stay first) (SecondConnect before number ∷ [])
-    (of_if in_orphan (is_none stay.asked && not first) (OutAfterAnswer before number) refl) refl)
+    let out = out_after_answer number before stay first in
+    let second = Some (SecondConnect before number) in
+    list_choice (is_some stay.reply) (held (out ∷ second ∷ [])) []
+    (of_held in_orphan (out ∷ second ∷ []) (of_if in_orphan (is_none stay.asked && not first) (OutAfterAnswer before number) refl, (refl, tt)))
+    refl
 
-before_listed : (c : Cluster) (client number before : ℕ) (left : Bool) (stay : Option StaySeen)
-    → list_all in_orphan (before_causes c client number before left stay) ≡ true
-before_listed c client number before true stay = refl
-before_listed c client number before false None = refl
-before_listed c client number before false (Some stay) = answered_listed number before stay (is_asked_first c client before)
+before_listed : (c : Cluster) (client number before : ℕ) (stay : Option StaySeen) → list_all in_orphan (before_causes c client number before stay) ≡ true
+before_listed c client number before None = refl
+before_listed c client number before (Some stay) =
+    let first = is_asked_first c client before in
+    list_choice (is_disconnect stay.nsp (last_of_stay c client before)) (AfterDisconnect before number ∷ []) (answered_causes number before stay first)
+    refl (answered_listed number before stay first)
 
 of_before_listed : (c : Cluster) (client number : ℕ) (before : Option ℕ) → list_all in_orphan (causes_of_before c client number before) ≡ true
 of_before_listed c client number None = refl
-of_before_listed c client number (Some before) =
-    before_listed c client number before (is_disconnect (last_of_stay c client before)) (slice_get (stays_at c client) before)
+of_before_listed c client number (Some before) = before_listed c client number before (slice_get (stays_at c client) before)
 
-unreplied_listed : (c : Cluster) (client number : ℕ) (stay : StaySeen) (before : Option ℕ) → list_all in_orphan (unreplied_causes c client number stay before) ≡ true
-unreplied_listed c client number stay before =
+unreplied_listed : (c : Cluster) (client number : ℕ) (stay : StaySeen) → list_all in_orphan (unreplied_causes c client number stay) ≡ true
+unreplied_listed c client number stay =
     let late = began_late c client number stay in
     let next = next_of_stay c client number in
-    let lost = reply_lost client stay.asked next in
-    of_and in_orphan (without_reply number stay.asked next late) (cause_and lost (causes_of_before c client number before))
-    (without_listed number stay.asked next late)
-    (of_and in_orphan lost (causes_of_before c client number before)
-    (lost_listed client stay.asked next)
-    (of_before_listed c client number before))
+    let before = stay_before (stays_at c client) number stay in
+    let causes = without_reply number stay.asked next late ∷ reply_lost client stay.asked next ∷ [] in
+    of_both in_orphan (held causes) (causes_of_before c client number before)
+    (of_held in_orphan causes (without_listed number stay.asked next late, (lost_listed client stay.asked next, tt)))
+    (of_before_listed c client number before)
 
 replied_listed : (c : Cluster) (client number : ℕ) (stay : StaySeen) (reply : Option ReplySeen) → list_all in_orphan (replied_causes c client number stay reply) ≡ true
-replied_listed c client number stay None = unreplied_listed c client number stay (stay_before (stays_at c client) number stay)
+replied_listed c client number stay None = unreplied_listed c client number stay
 replied_listed c client number stay (Some reply) = unless (is_some reply.pid)
   where
     unless : (b : Bool) → list_all in_orphan (cond b [] (ReplyWithoutPid number ∷ [])) ≡ true

@@ -28,9 +28,8 @@ use Rattle.aud_causes.specs.Logs.{first_cause, later_cause, order_cause, record_
 use Rattle.aud_causes.specs.Names.{client_causes, reply_missing, unnamed_from}
 use Rattle.aud_causes.specs.Recorded.{first_own, has_first_turn, is_node, no_log_causes, open_not_recorded, opener_not_tapped, order_causes}
 use Rattle.aud_causes.specs.Turns.{after_begin, begins_of, breaks_of, ends_of, is_broken, is_untapped, missing_back, missing_break, missing_breaks, missing_by, missing_causes, not_tapped, recovery_after, turn_count, unbegun}
-use Rattle.aud_causes.specs.Differences.{cause_and}
 use Rattle.aud_causes.specs.Twice.{causes_of_twice, is_as_often, is_open, is_so, open_with, opened_after, opened_twice, recovered_twice, second_open, turn_not_stored, twice_at, twice_causes}
-use Rattle.aud_causes.proofs.Listed.Each.{OfSome, is_listed, of_and, of_both, of_choice, of_each, of_held, of_if, of_list, of_map, of_or, of_then}
+use Rattle.aud_causes.proofs.Listed.Each.{OfSome, is_listed, of_both, of_choice, of_each, of_held, of_if, of_list, of_map, of_or, of_then}
 
 -- ---- NOLOG
 
@@ -108,11 +107,9 @@ cleared_listed c pid nodes =
 twice_listed : (ended : List Bool) (as_often : Bool) (twice : Option Twice) → list_all in_chain (causes_of_twice ended as_often twice) ≡ true
 twice_listed ended as_often None = refl
 twice_listed ended as_often (Some t) =
-    of_and in_chain (turn_not_stored ended as_often t) (cause_and (recovered_twice t) [])
-    (of_if in_chain (as_often || is_so (slice_get ended t.turn)) (TurnNotStored t.turn t.first t.again) refl)
-    (of_and in_chain (recovered_twice t) []
-    (of_if in_chain (not (nat_eq t.first.node t.again.node)) (RecoveredTwice t.turn t.first t.again) refl)
-    refl)
+    let stored = of_if in_chain (as_often || is_so (slice_get ended t.turn)) (TurnNotStored t.turn t.first t.again) refl in
+    let recovered = of_if in_chain (not (nat_eq t.first.node t.again.node)) (RecoveredTwice t.turn t.first t.again) refl in
+    of_held in_chain (turn_not_stored ended as_often t ∷ recovered_twice t ∷ []) (stored, (recovered, tt))
 
 opened_after_listed : (first : Option RecordPlace) (m : TurnMark) → OfSome in_chain (opened_after first m)
 opened_after_listed first m =

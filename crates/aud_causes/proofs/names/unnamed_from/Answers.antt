@@ -15,14 +15,14 @@ step c taps place within =
     ap (unnamed_from c place) (drop_at taps place tap at)
     ∙ ap (λ (n : ℕ). cond (has_unnamed c place (transcript_at c place)) (Some place) (unnamed_from c n (drop n taps))) next
 
-pub returns-then-has_unnamed : goal.returns-then-has_unnamed
-returns-then-has_unnamed c =
+pub returns-then-branch : goal.returns-then-branch
+returns-then-branch c =
     let here = c.args.recording.now in
     let taps = c.args.taps.now in
     let place = c.loop-place.place in
     sym
     (step here taps place c.loop-place-test.true
-    ∙ ap (λ b. cond b (Some place) (unnamed_from here (place + 1) (drop (place + 1) taps))) (sym c.has_unnamed.ensures ∙ c.if-has_unnamed.true))
+    ∙ ap (λ b. cond b (Some place) (unnamed_from here (place + 1) (drop (place + 1) taps))) (sym c.in_ok-has_unnamed.ensures ∙ c.if-branch.true))
     ∙ c.loop-place.invariant
 
 pub loop-place-preserved : goal.loop-place-preserved
@@ -32,5 +32,5 @@ loop-place-preserved c =
     let place = c.loop-place.place in
     sym
     (step here taps place c.loop-place-test.true
-    ∙ ap (λ b. cond b (Some place) (unnamed_from here (place + 1) (drop (place + 1) taps))) (sym c.has_unnamed.ensures ∙ c.if-has_unnamed.false))
+    ∙ ap (λ b. cond b (Some place) (unnamed_from here (place + 1) (drop (place + 1) taps))) (sym c.in_ok-has_unnamed.ensures ∙ c.if-branch.false))
     ∙ c.loop-place.invariant
