@@ -49,7 +49,10 @@ fn figures(received: &[u64], due: &[u64], difference: Option<Difference>) -> Rec
         got: received.len() as u64,
         due: due.len() as u64,
         tail: due.iter().filter(|position| last < **position).count() as u64,
-        at_frame: at_frame_of(received, difference),
+        at_frame: match difference {
+            Some(difference) => Some((frame_of(difference) as u64).saturating_add(1)),
+            None => None,
+        },
     }
 }
 
@@ -62,16 +65,6 @@ pub(crate) fn greatest(positions: &[u64]) -> u64
         greatest = (*position).max(greatest);
     }
     greatest
-}
-
-/// The frame, from 1, at which the difference shows, if there is one.
-fn at_frame_of(received: &[u64], difference: Option<Difference>) -> Option<u64>
-    ensures { IsWithin (length received.now) difference → result ≡ at_frame difference }
-{
-    match difference {
-        Some(difference) => Some((frame_of(difference) as u64).saturating_add(1)),
-        None => None,
-    }
 }
 
 /// The frame at which the difference shows.

@@ -3,11 +3,10 @@ ghost use Rattle.std.specs.Prelude.{◌≡◌, ◌++◌, IfOk, IfSome, OnOk, is_
 ghost use Rattle.aud_session_facts.specs.Account.{IsAccountOf};
 ghost use Rattle.aud_rows.specs.ClientPlaces.{AreOf};
 ghost use Rattle.aud_rows.specs.Seen.{row_seen};
-ghost use Rattle.aud_rows.specs.StayRows.{stays_at};
 ghost use Rattle.aud_rows.specs.TrueRow.{IsTrueRow};
 ghost use Rattle.aud_session_facts.specs.FramePlaces.{frame_at};
 ghost use Rattle.aud_findings.specs.Prepared.{IsPreparedOf};
-ghost use Rattle.aud_findings.specs.Also.{AreAlso, IsAlsoShown, also_seen, end_lines, entry_lines, frame_row_at, got_lines, line_of, lines_at, no_others, others_seen, range_shown, told_of};
+ghost use Rattle.aud_findings.specs.Also.{AreAlso, IsAlsoShown, also_seen, entry_lines, frame_row_at, got_lines, line_of, lines_at, no_others, others_seen, range_shown, told_of};
 ghost use Rattle.aud_verdict.specs.declared.verdict.Verdict.TheVariants.{No};
 ghost use Rattle.aud_findings.specs.Private.InRanges.{range_seen};
 
@@ -20,9 +19,8 @@ use crate::replies::numbers_naming;
 use crate::tail::tail_also;
 use aud_cert::Fault;
 use aud_check::Difference;
-use aud_client::Recording;
 use aud_rows::{ClientPlaces, Role, Row, Sheet};
-use aud_session_facts::{Account, FramePlace, frame_at, positions_received};
+use aud_session_facts::{Account, frame_at, positions_received};
 use aud_verdict::Verdict;
 use std::alloc::{AllocError, Global};
 
@@ -167,31 +165,18 @@ pub(crate) fn range_shown(
     ensures { IfOk result (λ also. also_seen also
         ≡ range_shown (range_seen range) first.items last.now) }
 {
-    if range.first == range.last {
-        return Ok(AlsoShown {
-            position: range.first,
-            to: range.last,
-            lines: first,
-        });
+    let mut lines = first;
+    if range.first != range.last {
+        lines.truncate(1);
+        if let Some(line) = last.last() {
+            lines.push(*line)?;
+        }
     }
-    let lines = end_lines(first, last)?;
     Ok(AlsoShown {
         position: range.first,
         to: range.last,
         lines,
     })
-}
-
-/// The first of the former lines, and the last of the latter.
-fn end_lines(first: Vec<u64>, last: &[u64]) -> Result<Vec<u64>, AllocError>
-    ensures { IfOk result (λ lines. lines.items ≡ end_lines first.items last.now) }
-{
-    let mut lines = first;
-    lines.truncate(1);
-    if let Some(line) = last.last() {
-        lines.push(*line)?;
-    }
-    Ok(lines)
 }
 
 /// The line of the entry.
@@ -273,6 +258,7 @@ pub(crate) fn push_line(lines: &mut Vec<u64>, row: Option<Row<'_>>) -> Result<()
 }
 
 /// The row of the frame with this number over these stays.
+#[tactic(auto, using(crate::proofs::Told::told_some, aud_session_facts::proofs::NoClient::no_frame))]
 pub(crate) fn frame_row<'r>(
     sheet: &Sheet<'r, '_>,
     tap: &ClientPlaces,
@@ -286,22 +272,7 @@ pub(crate) fn frame_row<'r>(
         role }
     ensures truth { IfSome result (IsTrueRow sheet.now.recording.now sheet.now.lines.now) }
 {
-    let at = place_of(sheet.recording, tap.place, numbers, frame)?;
+    let client = sheet.recording.client(tap.place)?;
+    let at = frame_at(&client.transcript().stays, numbers, frame)?;
     sheet.frame_row(tap, at.stay, at.frame, role)
-}
-
-/// Where that frame stands.
-#[tactic(auto, using(crate::proofs::Told::told_some, aud_session_facts::proofs::NoClient::no_frame))]
-fn place_of(
-    recording: &Recording<'_>,
-    place: usize,
-    numbers: &[usize],
-    frame: usize,
-) -> Option<FramePlace>
-    ensures { result ≡ frame_at (stays_at recording.now place) numbers.now frame }
-{
-    match recording.client(place) {
-        Some(client) => frame_at(&client.transcript().stays, numbers, frame),
-        None => None,
-    }
 }

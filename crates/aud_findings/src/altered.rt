@@ -2,7 +2,7 @@
 ghost use Rattle.std.specs.Prelude.{◌≡◌, IfOk, filter, map, nat_eq, not};
 ghost use Rattle.aud_session_facts.specs.Account.{IsAccountOf};
 ghost use Rattle.aud_rows.specs.ClientPlaces.{AreOf};
-ghost use Rattle.aud_findings.specs.Also.{AreAllOf, AreAlteredAlso, altered_lines, altered_positions, is_altered_at, is_another, others_seen, told_of};
+ghost use Rattle.aud_findings.specs.Also.{AreAllOf, AreAlteredAlso, altered_lines, altered_positions, is_another, others_seen, told_of};
 
 use crate::also::{entry_lines, frame_row, push_line, range_shown};
 use crate::outcome::OthersShown;
@@ -87,7 +87,7 @@ fn altered_lines(
 {
     let mut lines = entry_lines(alloc, sheet, position)?;
     for (number, frame) in frames.iter().enumerate() {
-        if is_altered_at(sheet.recording.logs().stream(), position, *frame) {
+        if frame.position == position && !is_entry(sheet.recording.logs().stream(), *frame) {
             push_line(
                 &mut lines,
                 frame_row(sheet, tap, numbers, number, Role::Later),
@@ -95,16 +95,6 @@ fn altered_lines(
         }
     }
     Ok(lines)
-}
-
-/// Whether the frame is of the position, and isn't the entry there.
-fn is_altered_at(stream: &Stream<'_>, position: u64, frame: &Frame<'_>) -> bool
-    ensures { result ≡ is_altered_at stream.now position frame.now }
-{
-    if frame.position != position {
-        return false;
-    }
-    !is_entry(stream, frame)
 }
 
 /// The positions of the frames that aren't the entry there, in the order in which they came.

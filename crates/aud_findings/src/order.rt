@@ -1,10 +1,10 @@
 //! What shows that a node on which a session was is out of order.
-ghost use Rattle.std.specs.Prelude.{◌≡◌, ◌++◌, ◌∷◌, [], IfOk, IfSome, MatchOption, OnOk, map};
+ghost use Rattle.std.specs.Prelude.{◌≡◌, IfOk, IfSome, MatchOption, map};
 ghost use Rattle.aud_node.specs.OwnPlaces.{own_places};
 ghost use Rattle.aud_rows.specs.Seen.{row_seen};
 ghost use Rattle.aud_session_facts.specs.RowLists.{AreTrueRows};
 ghost use Rattle.aud_findings.specs.Prepared.{IsOrderRead, IsPreparedOf};
-ghost use Rattle.aud_findings.specs.ShowsOrder.{AreOrdered, AreOutOfOrder, ShowsOrder, order_records, places_in};
+ghost use Rattle.aud_findings.specs.ShowsOrder.{AreOrdered, AreOutOfOrder, ShowsOrder, order_records};
 
 use crate::prepared::{Prepared, PreparedTap};
 use crate::unordered::first_unordered;
@@ -75,24 +75,14 @@ pub fn unordered_of(
 {
     let mut found = Vec::new(alloc);
     for node in logs.nodes_of(pid) {
-        push_place(&mut found, *node, unordered_at(logs, prepared, *node))?;
+        if let Some(number) = unordered_at(logs, prepared, *node) {
+            found.push(RecordPlace {
+                node: *node,
+                number,
+            })?;
+        }
     }
     Ok(found)
-}
-
-/// Adds the record with this number of the node, if there is one.
-fn push_place(
-    found: &mut Vec<RecordPlace>,
-    node: usize,
-    number: Option<usize>,
-) -> Result<(), AllocError>
-    ensures { OnOk result (found.new.items
-        ≡ found.old.items ++ places_in (node ∷ []) (number ∷ [])) }
-{
-    if let Some(number) = number {
-        found.push(RecordPlace { node, number })?;
-    }
-    Ok(())
 }
 
 /// The number of the first record out of order of the node at this place.

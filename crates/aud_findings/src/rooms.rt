@@ -4,8 +4,7 @@ ghost use Rattle.std.specs.List.{find};
 ghost use Rattle.aud_node.specs.Stream.{entry};
 ghost use Rattle.aud_cert.specs.Certificate.{turn_at};
 ghost use Rattle.aud_maker.specs.Made.{IsMade};
-ghost use Rattle.aud_session_facts.specs.NotDue.{reason_of};
-ghost use Rattle.aud_findings.specs.RoomChanges.{change_for, change_in, is_changed, left_change, not_due_change, reach_of, room_change, rooms_in};
+ghost use Rattle.aud_findings.specs.RoomChanges.{change_in, is_changed, left_change, not_due_change, reach_of, room_change, rooms_in};
 
 use aud_cert::{Certificate, Turn, turn_place};
 use aud_node::Logs;
@@ -58,22 +57,7 @@ pub(crate) fn not_due_change(
     ensures { (made : IsMade logs.now cert.now.pid cert.now)
         → result ≡ not_due_change logs.now cert.now made position }
 {
-    match why_not_due(logs, cert, position) {
-        Some(why) => change_for(logs, cert, position, why),
-        None => None,
-    }
-}
-
-/// The same for this reason.
-fn change_for(
-    logs: &Logs<'_>,
-    cert: &Certificate<'_>,
-    position: u64,
-    why: NotDue<'_>,
-) -> Option<RoomChange>
-    ensures { result ≡ change_for logs.now cert.now position (reason_of why.entry) }
-{
-    match why {
+    match why_not_due(logs, cert, position)? {
         NotDue::NoCommonRoom => room_change(logs, cert, false, position),
         NotDue::Excepted { room } => {
             let reach = reach_of(logs, cert.turns.as_slice(), position)?;

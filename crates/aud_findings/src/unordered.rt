@@ -1,9 +1,8 @@
 //! The first record of a node's log that is out of order.
 ghost use Rattle.std.specs.Prelude.{◌≡◌, MatchOption, is_some, suc};
-ghost use Rattle.std.specs.Option.{option_copied};
 ghost use Rattle.aud_node.specs.Cluster.{node_log};
 ghost use Rattle.aud_node.specs.Cursors.{is_position, position_if_past};
-ghost use Rattle.aud_node.specs.Ordered.{is_in_order, is_some_in_order};
+ghost use Rattle.aud_node.specs.Ordered.{is_in_order};
 ghost use Rattle.aud_node.specs.Stream.{position};
 ghost use Rattle.aud_findings.specs.Order.{IsFirstOutOfOrder, AreInOrder};
 
@@ -33,22 +32,15 @@ fn first_out_of_order(log: &NodeLog<'_>, stream: &Stream<'_>) -> Option<usize>
     let recs = log.recs();
     let mut cursor = 0;
     for number in 0..recs.len() {
-        if !is_some_in_order(stream, number, cursor, recs.get(number)) {
+        let Some(rec) = recs.get(number) else {
+            return Some(number);
+        };
+        if !is_in_order(stream, number, cursor, rec) {
             return Some(number);
         }
         cursor = log.cursor_after(number).unwrap_or(0);
     }
     None
-}
-
-/// Whether there is a record, and it is in order after this cursor.
-fn is_some_in_order(stream: &Stream<'_>, number: usize, cursor: u64, rec: Option<&NodeRec>) -> bool
-    ensures { result ≡ is_some_in_order stream.now number cursor (option_copied rec.entry) }
-{
-    match rec {
-        Some(rec) => is_in_order(stream, number, cursor, rec),
-        None => false,
-    }
 }
 
 /// Whether the entry of this offset stands past the cursor.

@@ -1,14 +1,13 @@
 //! What shows that no node opened a session, or that not exactly one client had it.
-ghost use Rattle.std.specs.Prelude.{◌≡◌, ◌++◌, IfOk, IfSome, List, OnOk, length, map, option_map};
+ghost use Rattle.std.specs.Prelude.{◌≡◌, ◌++◌, IfOk, IfSome, OnOk, length, map, option_map};
 ghost use Rattle.aud_client.specs.Replies.{naming_places};
 ghost use Rattle.aud_rooms.specs.Turns.{HasNoTurn};
 ghost use Rattle.aud_rows.specs.Seen.{row_seen};
 ghost use Rattle.aud_rows.specs.ClientPlaces.{AreOf};
 ghost use Rattle.aud_rows.specs.TrueRow.{IsTrueRow};
 ghost use Rattle.aud_session_facts.specs.RowLists.{AreTrueRows};
-ghost use Rattle.aud_session_facts.specs.ShowsDifference.{AreNumbersOf};
 ghost use Rattle.aud_findings.specs.Prepared.{IsPreparedOf};
-ghost use Rattle.aud_findings.specs.NamingReplies.{first_row_at, IsFirstReply, replies_at};
+ghost use Rattle.aud_findings.specs.NamingReplies.{IsFirstReply, replies_at};
 ghost use Rattle.aud_findings.specs.ChainRecords.{turn_record};
 ghost use Rattle.aud_findings.specs.ShowsClient.{ShowsClient};
 ghost use Rattle.aud_findings.specs.ShowsNoLog.{ShowsNoLog};
@@ -76,19 +75,11 @@ fn first_reply<'r>(
         return Ok(None);
     };
     let numbers = numbers_naming(sheet.recording, *place, pid);
+    let Some(number) = numbers.first() else {
+        return Ok(None);
+    };
     let tap = tap_at(alloc, sheet.recording, prepared, *place)?;
-    Ok(first_row_in(sheet, tap.places(), numbers))
-}
-
-/// The row of the reply of the first of these stays.
-fn first_row_in<'r>(sheet: &Sheet<'r, '_>, tap: &ClientPlaces, numbers: &[usize]) -> Option<Row<'r>>
-    requires { AreOf sheet.now.recording.now tap.now }
-    ensures row { option_map row_seen result
-        ≡ first_row_at sheet.now.recording.now sheet.now.lines.now tap.now.place numbers.now }
-    ensures truth { IfSome result (IsTrueRow sheet.now.recording.now sheet.now.lines.now) }
-{
-    let number = *numbers.first()?;
-    sheet.reply_row(tap, number, Role::Fault)
+    Ok(sheet.reply_row(tap.places(), *number, Role::Fault))
 }
 
 /// The rows of all replies that name the session, tap after tap. A tap that wasn't prepared is read.

@@ -3,7 +3,7 @@ ghost use Rattle.std.specs.Prelude.{◌≡◌, ◌<◌, IfOk, map};
 ghost use Rattle.std.specs.Option.{option_copied, option_map};
 ghost use Rattle.aud_cert.specs.Certificate.{turn_at};
 ghost use Rattle.aud_findings.specs.ShownTurn.{turn_seen};
-ghost use Rattle.aud_findings.specs.ChainTurns.{chain_span, end_of, span_between, turn_shown, turns_shown};
+ghost use Rattle.aud_findings.specs.ChainTurns.{chain_span, end_of, turn_shown, turns_shown};
 
 use crate::record_at::record_at;
 use crate::timeline::shown::{push_turn, span_shown};
@@ -51,21 +51,7 @@ fn chain_span(logs: &Logs<'_>, turn: TurnPlace) -> Option<TurnSpan>
     if turn.to <= turn.from {
         return None;
     }
-    let first = record_at(logs, turn.node, turn.from);
-    let last = record_at(logs, turn.node, turn.to - 1);
-    span_between(turn, first, last)
-}
-
-/// The same by these records.
-fn span_between(
-    turn: TurnPlace,
-    first: Option<&NodeRec>,
-    last: Option<&NodeRec>,
-) -> Option<TurnSpan>
-    requires { turn.from < turn.to }
-    ensures { result ≡ span_between turn (option_copied first.entry) (option_copied last.entry) }
-{
-    let (number, begin, pid) = match first? {
+    let (number, begin, pid) = match record_at(logs, turn.node, turn.from)? {
         NodeRec::Opened { pid, .. } => (0, TurnBegin::Open, pid.as_str()),
         NodeRec::Back { pid, turn } => (*turn, TurnBegin::Back, pid.as_str()),
         _ => return None,
@@ -76,7 +62,7 @@ fn span_between(
         node: turn.node,
         first: turn.from,
         last: turn.to - 1,
-        ends: end_of(pid, last),
+        ends: end_of(pid, record_at(logs, turn.node, turn.to - 1)),
     })
 }
 

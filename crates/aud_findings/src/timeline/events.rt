@@ -1,11 +1,11 @@
 //! What happened to the client of a session.
 ghost use Rattle.std.specs.Prelude.{◌≡◌, ◌++◌, IfOk, OnOk};
-ghost use Rattle.std.specs.Option.{option_and_then, option_copied, option_map};
+ghost use Rattle.std.specs.Option.{option_copied, option_map};
 ghost use Rattle.aud_client.specs.Replies.{is_this};
 ghost use Rattle.aud_node.specs.Stream.{position};
 ghost use Rattle.aud_rows.specs.ClientPlaces.{AreOf};
 ghost use Rattle.aud_rows.specs.Seen.{row_seen, says_seen};
-ghost use Rattle.aud_findings.specs.ClientEvents.{answered, asks_for, client_events, event_of, events_of_stays, frame_count, frame_events, happens_of, may_be_of, row_events, stay_events};
+ghost use Rattle.aud_findings.specs.ClientEvents.{answered, asks_for, client_events, frame_count, frame_events, happens_of, may_be_of, row_events, stay_events};
 
 use crate::record_at::stay_at;
 use crate::timeline::runs::joined_events;
@@ -33,29 +33,12 @@ pub fn client_events(
         ≡ client_events sheet.now.recording.now sheet.now.lines.now tap.now.place pid.now
         numbers.now) }
 {
-    let mut events = events_of_stays(alloc, sheet, tap, pid, numbers)?;
-    events.sort_by_key(|event| event.first)?;
-    joined_events(alloc, events.as_slice())
-}
-
-/// What happened in the stays, stay after stay.
-fn events_of_stays(
-    alloc: Global,
-    sheet: &Sheet<'_, '_>,
-    tap: &ClientPlaces,
-    pid: &str,
-    numbers: &[usize],
-) -> Result<Vec<ClientEvent>, AllocError>
-    requires { AreOf sheet.now.recording.now tap.now }
-    ensures { IfOk result (λ events. events.items
-        ≡ events_of_stays sheet.now.recording.now sheet.now.lines.now tap.now.place pid.now
-        numbers.now) }
-{
     let mut events = Vec::new(alloc);
     for number in numbers {
         push_stay(sheet, tap, &mut events, pid, *number)?;
     }
-    Ok(events)
+    events.sort_by_key(|event| event.first)?;
+    joined_events(alloc, events.as_slice())
 }
 
 /// Adds what happened in the stay with this number.
@@ -120,29 +103,18 @@ fn push_row(
         ++ row_events sheet.now.recording.now.stream pid.now asked
         (option_map row_seen row.entry)) }
 {
-    if let Some(event) = event_in(sheet.recording.logs().stream(), pid, asked, row) {
-        events.push(event)?;
+    let Some(row) = row else {
+        return Ok(());
+    };
+    let stream = sheet.recording.logs().stream();
+    if let Some(happens) = happens_of(stream, pid, asked, row.says) {
+        events.push(ClientEvent {
+            first: row.line,
+            last: row.line,
+            happens,
+        })?;
     }
     Ok(())
-}
-
-/// What happened in the row's record, on its line.
-fn event_in(
-    stream: &Stream<'_>,
-    pid: &str,
-    asked: bool,
-    row: Option<Row<'_>>,
-) -> Option<ClientEvent>
-    ensures { result ≡ option_and_then (event_of stream.now pid.now asked)
-        (option_map row_seen row.entry) }
-{
-    let row = row?;
-    let happens = happens_of(stream, pid, asked, row.says)?;
-    Some(ClientEvent {
-        first: row.line,
-        last: row.line,
-        happens,
-    })
 }
 
 /// What happened to the client of the session where a record of a stay says this, which asked for the session or
@@ -152,7 +124,10 @@ fn happens_of(stream: &Stream<'_>, pid: &str, asked: bool, says: Says<'_>) -> Op
 {
     match says {
         Says::Asks { off, .. } if asked => Some(Happens::Asks {
-            after: after_asked(stream, off),
+            after: match off {
+                Some(off) => stream.position(off),
+                None => None,
+            },
         }),
         Says::Reply { pid: named, .. } => answered(asked, pid, named),
         Says::Got { position, .. } => Some(Happens::Got {
@@ -162,14 +137,6 @@ fn happens_of(stream: &Stream<'_>, pid: &str, asked: bool, says: Says<'_>) -> Op
         Says::Lost { .. } => Some(Happens::Lost),
         _ => None,
     }
-}
-
-/// The position of the entry that was asked for.
-fn after_asked(stream: &Stream<'_>, off: Option<&str>) -> Option<u64>
-    ensures { result ≡ option_and_then (position stream.now)
-        (option_map (λ off. off.now) off.entry) }
-{
-    stream.position(off?)
 }
 
 /// What the answer to a stay is, which asked for the session or didn't, by the session that it names, if it names one.

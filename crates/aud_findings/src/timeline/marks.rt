@@ -2,7 +2,7 @@
 ghost use Rattle.std.specs.Prelude.{◌≡◌, ◌<◌, ◌-◌, ◌^◌, IfOk, map};
 ghost use Rattle.std.specs.Option.{option_map};
 ghost use Rattle.aud_findings.specs.ShownTurn.{turn_seen};
-ghost use Rattle.aud_findings.specs.MarkedTurns.{begins_by, end_open, ended_by, greatest_turn, last_by, last_number, mark_shown, mark_span, marked_turns, next_on, span_from, turn_number};
+ghost use Rattle.aud_findings.specs.MarkedTurns.{begins_by, end_open, greatest_turn, last_by, last_number, mark_shown, mark_span, marked_turns, next_on, span_from, turn_number};
 
 use crate::timeline::shown::{push_turn, span_shown};
 use crate::timeline::span::{Ends, LastRecord, TurnSpan};
@@ -142,30 +142,20 @@ fn last_by(turn: u16, is_followed: bool, log_end: usize, next: Option<TurnMark>)
     let Some(next) = next else {
         return end_open(is_followed, log_end, log_end);
     };
-    match ended_by(turn, next.mark) {
-        Some(ends) => LastRecord {
-            number: next.place.number,
-            ends,
+    let number = next.place.number;
+    match next.mark {
+        Mark::Break { turn: other } if other == turn => LastRecord {
+            number,
+            ends: Ends::ByBreak,
         },
-        None => {
-            let before = next.place.number.saturating_sub(1);
-            end_open(
-                is_followed || begins_by(next.mark).is_some(),
-                before,
-                log_end,
-            )
+        Mark::Gone => LastRecord {
+            number,
+            ends: Ends::ByGone,
+        },
+        _ => {
+            let begins = begins_by(next.mark).is_some();
+            end_open(is_followed || begins, number.saturating_sub(1), log_end)
         }
-    }
-}
-
-/// How the mark ends this turn of its session, if it does.
-fn ended_by(turn: u16, mark: Mark) -> Option<Ends>
-    ensures { result ≡ ended_by turn mark }
-{
-    match mark {
-        Mark::Break { turn: other } if other == turn => Some(Ends::ByBreak),
-        Mark::Gone => Some(Ends::ByGone),
-        _ => None,
     }
 }
 

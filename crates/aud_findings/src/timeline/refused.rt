@@ -1,13 +1,11 @@
 //! Recoveries of a session that were refused.
 ghost use Rattle.std.specs.Prelude.{◌≡◌, IfOk, IfSome, MatchOption, None, map};
 ghost use Rattle.std.specs.Option.{option_copied, option_map};
-ghost use Rattle.aud_session_facts.specs.Missed.{IsMissed, IsUntold};
 ghost use Rattle.aud_rows.specs.ClientPlaces.{AreOf};
-ghost use Rattle.aud_rows.specs.Seen.{row_seen};
-ghost use Rattle.aud_rows.specs.StayRows.{ask_row, stays_at};
+ghost use Rattle.aud_rows.specs.StayRows.{ask_row};
 ghost use Rattle.aud_rows.specs.TrueRow.{IsTrueRow};
 ghost use Rattle.aud_rows.specs.declared.row.Role.TheVariants as role;
-ghost use Rattle.aud_findings.specs.Refused.{IsMissedOf, ShowsRefused, asked_in, got_in, missed_at, missed_entries, missed_seen, refused_seen};
+ghost use Rattle.aud_findings.specs.Refused.{IsMissedOf, ShowsRefused, asked_in, got_in, missed_entries, missed_seen, refused_seen};
 
 use crate::record_at::stay_at;
 use aud_client::Stay;
@@ -117,20 +115,12 @@ fn missed_entries<'r>(
 {
     let mut entries = Vec::new(alloc);
     for position in positions {
-        if let Some(entry) = missed_at(stream, *position) {
-            entries.push(entry)?;
+        if let Some(entry) = stream.entry(*position) {
+            entries.push(Missed {
+                position: *position,
+                off: entry.offset().as_str(),
+            })?;
         }
     }
     Ok(entries)
-}
-
-/// The entry at the position.
-fn missed_at<'r>(stream: &Stream<'r>, position: u64) -> Option<Missed<'r>>
-    ensures { option_map missed_seen result ≡ missed_at stream.now position }
-{
-    let entry = stream.entry(position)?;
-    Some(Missed {
-        position,
-        off: entry.offset().as_str(),
-    })
 }
