@@ -1,5 +1,5 @@
 -- What an index keeps of the files that were read so far, step by step.
-use Rattle.std.proofs.Common.{◌≡◌, ℕ, zero, suc, ◌+◌, ◌-◌, ◌<◌, ◌==◌, ◌&&◌, ◌^◌, nat_lt, List, [], ◌∷◌, ◌++◌, length, take, true, false, cond, min, Some, is_ok, Result, Ok, Err, OnOk, nat_eq, slice_get, refl, sym, ap, ◌∙◌, subst, arith, append_assoc, append-nil, length-append, slice_index}
+use Rattle.std.proofs.Common.{◌≡◌, ℕ, zero, suc, ◌+◌, ◌-◌, ◌<◌, ◌≤◌, ◌==◌, ◌&&◌, ◌^◌, nat_lt, List, [], ◌∷◌, ◌++◌, length, take, true, false, cond, min, Some, is_ok, Result, Ok, Err, OnOk, nat_eq, slice_get, refl, sym, ap, ◌∙◌, subst, arith, append_assoc, append-nil, length-append, slice_index}
 use Rattle.std.specs.List.{flat_map}
 use Rattle.std.proofs.lemmas.Bool.{lt-ltb}
 use Rattle.std.proofs.lemmas.List.{get_or-append-add}
@@ -155,10 +155,6 @@ pub on_ok_later : {T E : Type 0} (C P : Type 0) (r : Result T E) → (C → OnOk
 on_ok_later C P (Err e) h = tt
 on_ok_later C P (Ok x) h = h
 
-pub positive : (n : ℕ) → (n ≡ 0 → ⊥) → 0 < n
-positive zero h = absurd (h refl)
-positive (suc n) h = omega arith
-
 pub fed-none : (s : TapIndex) (files : List (List ℕ)) (bytes piece : List ℕ) → ReadSoFar s files bytes → HasFed s files bytes piece piece
 fed-none s files bytes piece r = record { done = []; cut = refl; read = subst (ReadSoFar s files) (sym (append-nil bytes)) r }
 
@@ -204,6 +200,11 @@ last-some s t text some whole may e =
       file = e.file;
       number = let counts = e.number in let one = ap length pieces in omega (arith, counts, one);
     }
+
+-- without bytes there is none
+pub last-none : (s : TapIndex) (text : List ℕ) → s.begun.size ≤ 0 → MayEnd s text → HasEndedLast s s text
+last-none s [] none may = record { taps = refl; keeps = may.keeps; file = refl; number = omega arith }
+last-none s (b ∷ text) none may = let sized = (may.begun).sized in absurd (omega (arith, none, sized))
 
 placed_files-push : (file n : ℕ) (files : List (List ℕ)) (bytes : List ℕ)
     → placed_files file n (files ++ bytes ∷ []) ≡ placed_files file n files ++ placed_lines (file + length files) 0 (n + line_count files) (line_pieces bytes)

@@ -7,11 +7,11 @@ pub mod tap_runs;
 
 ghost use Rattle.std.specs.Prelude.{◌≡◌, ◌+◌, ◌^◌, ◌<◌, ◌++◌, ◌∷◌, [], List, ℕ, length, false, OnOk};
 ghost use Rattle.std.specs.List.{All};
-ghost use Rattle.aud_reader.specs.Lines.{has_newline, without_return};
+ghost use Rattle.aud_reader.specs.Lines.{without_return};
 ghost use Rattle.aud_parts.specs.TapRuns.{MayBeRead};
 ghost use Rattle.aud_parts.specs.FileLines.{AreTapsOf, file_lines, front_refusal};
 ghost use Rattle.aud_parts.specs.IndexSoFar.{HasRead, IsBegun, IsCounted, KeepsPlaces, line_count, so_far, with_line};
-ghost use Rattle.aud_parts.specs.Private.IndexSteps.{HasEnded, HasEndedLast, Looks, MayEnd, placed_at};
+ghost use Rattle.aud_parts.specs.Private.IndexSteps.{HasEnded, Looks, MayEnd, placed_at};
 
 use crate::tap_index::tap_runs::{Run, RunsByTap, TapRuns};
 use aud_input::{first_bytes, name_of};
@@ -127,21 +127,12 @@ impl TapIndex {
         ensures { (files : List (List ℕ)) (bytes : List ℕ) → HasRead self.old files bytes
             → OnOk result (HasRead self.new (files ++ bytes ∷ []) []) }
     {
-        self.end_last()?;
+        if self.begun.size > 0 {
+            self.end_line()?;
+        }
         self.begun.begin(0);
         self.file = self.file.saturating_add(1);
         Ok(())
-    }
-
-    /// Ends the line that has begun, if it has bytes.
-    fn end_last(&mut self) -> Result<(), AllocError>
-        ensures { (text : List ℕ) → has_newline text ≡ false → MayEnd self.old text
-            → OnOk result (HasEndedLast self.old self.new text) }
-    {
-        if self.begun.size == 0 {
-            return Ok(());
-        }
-        self.end_line()
     }
 
     /// Ends the line that has begun.

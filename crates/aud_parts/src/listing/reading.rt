@@ -65,7 +65,9 @@ fn sessions_in(
     let mut sessions = Vec::new(alloc);
     for line in lines {
         let session = session_in(alloc, parts, line.as_slice())?;
-        sessions.push(session)?;
+        let Ok(()) = sessions.push(session) else {
+            return Err(ListingFault::Memory);
+        };
     }
     Ok(sessions)
 }

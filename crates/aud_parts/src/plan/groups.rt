@@ -34,13 +34,17 @@ impl Groups {
         here
     }
 
-    /// The two numbers are of one group from now on.
-    pub(crate) fn join(&mut self, one: usize, other: usize) {
-        let one = self.least(one);
-        let other = self.least(other);
+    /// This number, if there is one, is from now on of one group with the last one, and is the last one then.
+    pub(crate) fn join(&mut self, last: &mut Option<usize>, next: Option<usize>) {
+        let Some(number) = next else {
+            return;
+        };
+        let one = self.least(last.unwrap_or(number));
+        let other = self.least(number);
         let large = one.max(other);
         if large < self.nearer.len() {
             self.nearer[large] = one.min(other);
         }
+        *last = next;
     }
 }

@@ -33,14 +33,21 @@ impl Load {
     /// The first limit that a part would pass with both; none where it has room.
     pub(crate) fn passed_with(&self, other: &Load) -> Option<Limit> {
         if self.clients.saturating_add(other.clients) > MAX_CLIENT_TAPS {
-            Some(Limit::Clients)
-        } else if self.sessions.saturating_add(other.sessions) > MAX_SESSIONS {
-            Some(Limit::Sessions)
-        } else if count_both(&self.nodes, &other.nodes) > MAX_NODE_TAPS {
-            Some(Limit::Nodes)
-        } else {
-            None
+            return Some(Limit::Clients);
         }
+        if self.sessions.saturating_add(other.sessions) > MAX_SESSIONS {
+            return Some(Limit::Sessions);
+        }
+        let mut nodes = 0u32;
+        for number in 0..self.nodes.len().max(other.nodes.len()) {
+            let own = self.nodes.get(number).copied().unwrap_or(0);
+            let others = other.nodes.get(number).copied().unwrap_or(0);
+            nodes = nodes.saturating_add((own | others).count_ones());
+        }
+        if nodes > MAX_NODE_TAPS {
+            return Some(Limit::Nodes);
+        }
+        None
     }
 
     /// Adds another one.
@@ -69,15 +76,4 @@ fn add_bits(words: &mut Vec<u64>, number: usize, bits: u64) -> Result<(), AllocE
         words[number] |= bits;
     }
     Ok(())
-}
-
-/// How many bits are set in one of the two, or in both.
-fn count_both(words: &[u64], others: &[u64]) -> u32 {
-    let mut count = 0u32;
-    for number in 0..words.len().max(others.len()) {
-        let word = words.get(number).copied().unwrap_or(0);
-        let other = others.get(number).copied().unwrap_or(0);
-        count = count.saturating_add((word | other).count_ones());
-    }
-    count
 }

@@ -45,33 +45,22 @@ pub(crate) fn units_of(
     for tap in taps {
         if let Records::Node(recs) = &tap.records {
             if !is_started(recs) {
-                join_named(recs, sessions, &mut groups);
+                let mut last = None;
+                for number in 0..recs.len() {
+                    groups.join(&mut last, sessions.number_named(recs[number].pid()));
+                }
             }
         }
     }
     for client in clients {
-        let mut last: Option<usize> = None;
+        let mut last = None;
         for pid in client.facts.pids.as_slice() {
-            if let Some(next) = sessions.number_of(pid.as_str()) {
-                groups.join(last.unwrap_or(next), next);
-                last = Some(next);
-            }
+            groups.join(&mut last, sessions.number_of(pid.as_str()));
         }
     }
     let mut units = Units::of_groups(alloc, sessions.len(), &mut groups)?;
     units.add(taps, clients, sessions)?;
     Ok(units)
-}
-
-/// Joins the sessions that the log's records name.
-fn join_named(recs: &NodeRecs, sessions: &Sessions, groups: &mut Groups) {
-    let mut last: Option<usize> = None;
-    for number in 0..recs.len() {
-        if let Some(next) = sessions.number_named(recs[number].pid()) {
-            groups.join(last.unwrap_or(next), next);
-            last = Some(next);
-        }
-    }
 }
 
 /// Whether the log has no records, or begins with a `start`.

@@ -6,7 +6,7 @@ ghost use Rattle.aud_base.specs.Places.{noted as place_noted, places_of};
 ghost use Rattle.aud_tap.specs.TapName.{is_tap_name};
 ghost use Rattle.aud_parts.specs.TapRuns as spec;
 ghost use Rattle.aud_parts.specs.PartLines.{is_server_at};
-ghost use Rattle.aud_parts.specs.IndexSoFar.{KeepsPlaces, Notes, changed, longer, none_noted, noted_in, place_in, with_run};
+ghost use Rattle.aud_parts.specs.IndexSoFar.{KeepsPlaces, Notes, changed, none_noted, noted_in, place_in, with_run};
 
 use aud_base::{Places, RunFault};
 use aud_input::LineRuns;
@@ -63,26 +63,6 @@ impl Model for TapRuns {
     ghost invariant = { λ s. IsTrue (is_tap_name s.name) };
 }
 
-/// Adds a line to the runs: to the last one, where it may go on that and is of the same file.
-fn push_run(runs: &mut Vec<Run>, line: Run, goes_on: bool) -> Result<(), AllocError>
-    ensures { OnOk result (runs.new.items ≡ longer goes_on line runs.old.items) }
-{
-    let Some(last) = runs.pop() else {
-        runs.push(line)?;
-        return Ok(());
-    };
-    if goes_on && last.file == line.file {
-        runs.push(Run {
-            to: line.to,
-            ..last
-        })?;
-        return Ok(());
-    }
-    runs.push(last)?;
-    runs.push(line)?;
-    Ok(())
-}
-
 impl TapRuns {
     pub fn name(&self) -> &str
         ensures value { result.now ≡ self.now.name }
@@ -111,7 +91,20 @@ impl TapRuns {
     fn push(&mut self, line: Run, goes_on: bool) -> Result<(), AllocError>
         ensures { OnOk result (self.new ≡ with_run goes_on line self.old) }
     {
-        push_run(&mut self.runs, line, goes_on)
+        let Some(last) = self.runs.pop() else {
+            self.runs.push(line)?;
+            return Ok(());
+        };
+        if goes_on && last.file == line.file {
+            self.runs.push(Run {
+                to: line.to,
+                ..last
+            })?;
+            return Ok(());
+        }
+        self.runs.push(last)?;
+        self.runs.push(line)?;
+        Ok(())
     }
 }
 

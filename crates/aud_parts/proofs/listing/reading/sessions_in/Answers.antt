@@ -13,7 +13,7 @@ loop-line-preserved c =
     let front = c.loop-line.sessions.items in
     let rest = drop (i + 1) lines in
     let here = drop_more lines i line c.loop-line-test.true ∙ ap (λ l. l ∷ rest) (sym c.line-item.is) in
-    ap (λ ss. with_sessions ss (sessions_in parts rest)) c.in_ok-push.ensures.items
+    ap (λ ss. with_sessions ss (sessions_in parts rest)) c.in-Ok.ensures.items
     ∙ sym (sessions_next parts line rest front c.in_ok-session.session (ap (session_in parts) (sym c.as_slice.ensures) ∙ c.in_ok-session.ensures))
     ∙ ap (λ ls. with_sessions front (sessions_in parts ls)) (sym here)
     ∙ c.loop-line.invariant
