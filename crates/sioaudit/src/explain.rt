@@ -1,5 +1,5 @@
 //! The command `explain`.
-ghost use Rattle.std.specs.Prelude.{◌<◌, IfOk, OnOk, length};
+ghost use Rattle.std.specs.Prelude.{◌<◌, ◌≤◌, IfOk, OnOk, length};
 
 use crate::failure::{Failure, refused_for, unread};
 use crate::progress::Progress;
@@ -71,9 +71,9 @@ fn lines_in(host: &HostRuntime, alloc: Global, name: &str) -> Result<PartLines, 
 fn other_part(
     alloc: Global,
     options: &ExplainOptions,
-    part: Option<PartLines>,
+    part: Option<&PartLines>,
 ) -> Result<Failure, AllocError> {
-    let (Some(name), Some(part)) = (&options.lines, &part) else {
+    let (Some(name), Some(part)) = (&options.lines, part) else {
         return Ok(Failure::from(RunFault::Write));
     };
     let (lines, bytes) = (part.size.lines, part.size.bytes);
@@ -178,32 +178,36 @@ pub fn explanation<H: Threads + Wait + Clock + Sync>(
     alloc: Global,
     words: &[&str],
 ) -> Result<ExitCode, Failure> {
-    let options = match explain_asked(alloc, words) {
-        Ok(options) => options,
-        Err(_) => return refuse(host, alloc, words),
+    let Ok(options) = explain_asked(alloc, words) else {
+        return refuse(host, alloc, words);
     };
-    let part = match &options.lines {
-        Some(name) => Some(lines_in(host, alloc, name.as_str())?),
-        None => None,
+    let Some(name) = &options.lines else {
+        return explained(rt, host, alloc, &options, None);
     };
+    let part = lines_in(host, alloc, name.as_str())?;
+    explained(rt, host, alloc, &options, Some(&part))
+}
+
+/// The same, where these are the lines of the part, if it is one.
+fn explained<H: Threads + Wait + Clock + Sync>(
+    rt: &H,
+    host: &HostRuntime,
+    alloc: Global,
+    options: &ExplainOptions,
+    part: Option<&PartLines>,
+) -> Result<ExitCode, Failure>
+    requires { (0 < options.now.workers) × (options.now.workers ≤ 64) }
+{
     let keys = keys_of(host)?;
-    let mut files = files_of(host, alloc, &options)?;
     let mut output = Watched::new(host.stdout());
-    match explain(
-        rt,
-        alloc,
-        keys,
-        &mut files,
-        &mut output,
-        &options,
-        part.as_ref(),
-    ) {
+    let mut files = files_of(host, alloc, options)?;
+    match explain(rt, alloc, keys, &mut files, &mut output, options, part) {
         Ok(ending) => ended(host, alloc, &ending),
         Err(ExplainFault::Write) => Err(Failure::Fault(RunFault::Write, output.os_error())),
         Err(ExplainFault::Unexplained(why)) => {
-            Err(unexplained(host, alloc, &options, &files, why)?)
+            Err(unexplained(host, alloc, options, &files, why)?)
         }
-        Err(ExplainFault::NoRecord { number }) => Err(no_record(alloc, &options, number)?),
-        Err(ExplainFault::OtherPart) => Err(other_part(alloc, &options, part)?),
+        Err(ExplainFault::NoRecord { number }) => Err(no_record(alloc, options, number)?),
+        Err(ExplainFault::OtherPart) => Err(other_part(alloc, options, part)?),
     }
 }
