@@ -5,7 +5,7 @@ pub(crate) const HEAD: &str = r#"<!doctype html>
 <html lang="en">
 <head>
 <meta charset="utf-8">
-<meta http-equiv="Content-Security-Policy" content="default-src 'none'; script-src 'sha256-B0cQyhRKJcRJ/bX54juwvzntxVlZNTyjE3L+QFXdeU0='; style-src 'sha256-Sa/bcERnPpFmw+weoDfErq+OoKo9cuKjOXv+alQSW30='; base-uri 'none'; form-action 'none'; require-trusted-types-for 'script'; trusted-types 'none'">
+<meta http-equiv="Content-Security-Policy" content="default-src 'none'; script-src 'sha256-ppScfpDKWGyKScVTmb89vqIc/4KHBFpRN99lh8Yep0U='; style-src 'sha256-Sa/bcERnPpFmw+weoDfErq+OoKo9cuKjOXv+alQSW30='; base-uri 'none'; form-action 'none'; require-trusted-types-for 'script'; trusted-types 'none'">
 <meta name="viewport" content="width=device-width, initial-scale=1">
 <title>sioaudit report</title>
 <style>
@@ -280,7 +280,7 @@ const SUMMARY = {
   recoveries: { asked: 0, granted: 0, refused: 0 }, class: zeros(CLASSES), fault: zeros(Object.keys(FAULTS)),
   causes: /** @type {Record<string, number>} */ ({}), no_known_cause: 0,
 };
-const REFUSED = { file: TEXT, file_line: 0, help: "", line: 0, name: "" };
+const REFUSED = { file: TEXT, file_line: 0, header: maybe({ file: TEXT, file_line: 0, line: 0 }), help: "", line: 0, name: "" };
 
 /** @typedef {typeof ROW} Row @typedef {typeof SESSION} Session @typedef {typeof SUMMARY} Summary */
 
@@ -320,6 +320,7 @@ function parsedLine(line, number) {
   }
   value.alike ??= [];
   const isRefused = "refused" in value && !("pid" in value);
+  if (isRefused && value.refused) value.refused.header ??= null;
   const [form, inner] = "summary" in value ? [SUMMARY, value.summary] : isRefused ? [REFUSED, value.refused] : [SESSION, value];
   const wrong = misfit(inner, form, "");
   if (wrong !== null) throw new Refusal(`Line ${number}: the member ${wrong.slice(1) || "summary"} is missing, or of another form.`);
@@ -346,10 +347,11 @@ function parsedReport(text) {
 }
 
 /** @param {typeof REFUSED} refused */
-function refusedLine({ file, file_line, help, line, name }) {
+function refusedLine({ file, file_line, header, help, line, name }) {
   const where = file === null ? "" : `That is line ${file_line} of ${visible(file)}.\n`;
   const all = help.split("\n").map(visible).join("\n");
-  return `The recording was not audited: its line ${line} is refused, ${visible(name)}.\n${where}${all}`;
+  const begin = header === null || header.file === null ? "" : `Its tap begins on line ${header.file_line} of ${visible(header.file)}.\n`;
+  return `The recording was not audited: its line ${line} is refused, ${visible(name)}.\n${where}${all}${begin}`;
 }
 
 // ---- The summary

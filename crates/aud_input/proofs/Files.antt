@@ -1,8 +1,8 @@
 -- Files that are taken in, one after the other.
-use Rattle.std.proofs.Common.{◌≡◌, ℕ, ◌+◌, ◌-◌, ◌<◌, ◌≤◌, nat_le, add-zero, drop, get_or, take, List, [], ◌∷◌, ◌++◌, length, map, Bool, true, false, cond, Option, Some, None, is_none, inl, inr, refl, sym, ap, ◌∙◌, append_assoc, append-nil, arith, subst, IfSome, IfOk, IfErr, Result, Ok, Err}
+use Rattle.std.proofs.Common.{◌≡◌, ℕ, ◌+◌, ◌-◌, ◌<◌, ◌≤◌, nat_le, nat_lt, add-zero, drop, get_or, take, List, [], ◌∷◌, ◌++◌, length, map, Bool, true, false, cond, Option, Some, None, is_none, inl, inr, refl, sym, ap, ◌∙◌, append_assoc, append-nil, arith, subst, IfSome, IfOk, IfErr, Result, Ok, Err}
 use Rattle.std.specs.Prelude.{slice_get}
 use Rattle.std.specs.List.{flat_map, sum_by}
-use Rattle.std.proofs.lemmas.Bool.{cases_Bool, le-leb, leb-false}
+use Rattle.std.proofs.lemmas.Bool.{cases_Bool, le-leb, leb-false, ltb-true}
 use Rattle.std.proofs.lemmas.List.{drop-drop, drop-set-lt, get_or-drop, length-map, map-append, map_more, take-map}
 use Rattle.std.proofs.lemmas.List.Sums.{sum_by-append, sum_by-cons}
 use Rattle.std.proofs.Math.ListN.{set}
@@ -32,7 +32,7 @@ use Rattle.aud_input.specs.declared.reading.ReadingFault.{ReadingFault}
 use Rattle.aud_input.specs.declared.reading.ReadingFault.TheVariants.{Refused, Unread, Memory}
 use Rattle.aud_input.specs.declared.refusal.Refusal.{Refusal}
 use Rattle.aud_input.specs.FileLine.{after_files, file_line}
-use Rattle.aud_input.specs.Files.{AreRecorded, AreTold, AreUnrecorded, IsTold, header_told, line_counts, line_told, taps_read}
+use Rattle.aud_input.specs.Files.{AreRecorded, AreTold, AreUnrecorded, IsTold, header_stands, header_told, line_counts, line_told, taps_read}
 use Rattle.aud_input.specs.Private.Feeding.{AreCounted, AreReadBefore, AreTaken, EndsFile, IsRead, IsRecordedOf, IsRefusedOf, TakesIn, TellsUnread, counts_after, line_end}
 use Rattle.aud_input.proofs.FilesLemmas.{files-lines, pieces-flat}
 use Rattle.aud_input.proofs.GivenLemmas.{all-given, begun-append, lines-length, lines_counted, newlines-append, newlines_in, noted-length, noted-newlines, nothing-begun}
@@ -132,26 +132,26 @@ counted-more : (files : List (List ℕ)) (counts : List ℕ) (file : List ℕ) (
     → AreCounted (files ++ file ∷ []) (cond (is_none has) (counts ++ (lines_noted u.index - lines_noted s.index) ∷ []) counts) has
 counted-more files counts file s u (Some f) None was is stays before after counted = absurd (none-some f (sym is ∙ stays))
 counted-more files counts file s u (Some f) (Some kind.Memory) was is stays before after counted = tt
-counted-more files counts file s u (Some f) (Some (Input n code)) was is stays before after counted = λ later.
+counted-more files counts file s u (Some f) (Some (Input n code)) was is stays before after counted = λ later m upto.
     let same : f ≡ Input n code = same_Some f (Input n code) (sym stays ∙ is) in
     let given : AreCounted files counts (Some (Input n code)) = subst (λ g. AreCounted files counts (Some g)) same counted in
-    given (lines_in file ∷ later) ∙ ap (λ all. file_line all n) (sym (append_assoc (map lines_in files) (lines_in file ∷ []) later) ∙ ap (λ all. all ++ later) (sym (map-append lines_in files (file ∷ []))))
+    given (lines_in file ∷ later) m upto ∙ ap (λ all. file_line all m) (sym (append_assoc (map lines_in files) (lines_in file ∷ []) later) ∙ ap (λ all. all ++ later) (sym (map-append lines_in files (file ∷ []))))
 counted-more files counts file s u None None was is stays before after counted =
     let first = noted-newlines (flat_map (ended false) files) s before.lines was in
     let all = noted-newlines (flat_map (ended false) (files ++ file ∷ [])) u after.lines is in
     let count : lines_noted u.index - lines_noted s.index ≡ lines_in file = omega (arith, first, all, newlines-last files file) in
     rw (counted, count) (sym (map-append lines_in files (file ∷ [])))
 counted-more files counts file s u None (Some kind.Memory) was is stays before after counted = tt
-counted-more files counts file s u None (Some (Input n code)) was is stays before after counted = λ later.
+counted-more files counts file s u None (Some (Input n code)) was is stays before after counted = λ later m upto.
     let text : List ℕ = flat_map (ended false) (files ++ file ∷ []) in
     let refused : input_of Bundle text ≡ Err (Input n code) =
     ap (input_of Bundle) (sym (append-nil text)) ∙ sym (after.input []) ∙ ap (λ f. unless_refused f (input_over u.parts (lines_to_come u.cut []))) is
     in
     let within = refused-within text n code refused in
-    let size : n ≤ sum_by (λ c. c) (map lines_in files) + lines_in file = omega (arith, within, lines-files (files ++ file ∷ []), sum_by-last lines_in files file, sum-lines files) in
-    ap (λ all. file_line all n) counted
-    ∙ sym (file_line-front (map lines_in files) (lines_in file) later n size)
-    ∙ ap (λ all. file_line all n) (sym (append_assoc (map lines_in files) (lines_in file ∷ []) later) ∙ ap (λ all. all ++ later) (sym (map-append lines_in files (file ∷ []))))
+    let size : m ≤ sum_by (λ c. c) (map lines_in files) + lines_in file = omega (arith, upto, within, lines-files (files ++ file ∷ []), sum_by-last lines_in files file, sum-lines files) in
+    ap (λ all. file_line all m) counted
+    ∙ sym (file_line-front (map lines_in files) (lines_in file) later m size)
+    ∙ ap (λ all. file_line all m) (sym (append_assoc (map lines_in files) (lines_in file ∷ []) later) ∙ ap (λ all. all ++ later) (sym (map-append lines_in files (file ∷ []))))
 
 -- one more, which is ended
 pub one_more : (files : List (List ℕ)) (counts : List ℕ) (file : List ℕ) (s t u : Feeding) → AreTaken files counts s → TakesIn s t file → EndsFile t u
@@ -250,8 +250,8 @@ record-of text s (Ok recorded) none read ended taps lines size =
 -- what is told of a line that is refused
 pub refusal-of : (text counts : List ℕ) (s : InputSoFar) (number : ℕ) (code : InputCode) (told : Refusal) → s.fault ≡ Some (Input number code) → IsRead text s
     → told.number ≡ number → told.code ≡ code → told.at ≡ file_line counts number → told.line ≡ line_told (line_numbered number s.parts.waiting)
-    → told.header ≡ header_told code (taps_noted s.index) told.line → IsRefusedOf text counts (Refused told)
-refusal-of text counts s number code told refused read is_number is_code is_at is_line is_header =
+    → told.header ≡ header_told code (taps_noted s.index) told.line → told.header_at ≡ header_stands counts number told.header → IsRefusedOf text counts (Refused told)
+refusal-of text counts s number code told refused read is_number is_code is_at is_line is_header stands =
     let input : input_of Bundle text ≡ Err (Input number code) =
     ap (input_of Bundle) (sym (append-nil text)) ∙ sym (read.input []) ∙ ap (λ f. unless_refused f (input_over s.parts (lines_to_come s.cut []))) refused
     in
@@ -263,6 +263,7 @@ refusal-of text counts s number code told refused read is_number is_code is_at i
       is_at,
       subst (IsTold code (slice_get (line_pieces text) (number - 1))) (sym is_line) (line-told text s number code refused read.lines),
       header,
+      stands,
     )
 
 -- lines that waited were read
@@ -286,13 +287,28 @@ file_line-last (file ∷ next ∷ files) n within =
           rw past (ap (after_files 1) (file_line-last (next ∷ files) (n - lines_in file) rest))
     ]
 
--- where a refused line stands
+-- where a refused line stands, and each line before it
 stands-at : (files : List (List ℕ)) (counts : List ℕ) (fault : Option ReadFault) (n : ℕ) (code : InputCode) → AreCounted files counts fault → IfSome fault (λ f. f ≡ Input n code) → n ≤ sum_by lines_in files
-    → file_line counts n ≡ file_line (line_counts files) n
-stands-at files counts None n code counted same within = ap (λ all. file_line all n) counted ∙ file_line-last files n within
-stands-at files counts (Some f) n code counted same within =
+    → (m : ℕ) → m ≤ n → file_line counts m ≡ file_line (line_counts files) m
+stands-at files counts None n code counted same within m upto =
+    let size : m ≤ sum_by lines_in files = omega (arith, upto, within) in
+    ap (λ all. file_line all m) counted ∙ file_line-last files m size
+stands-at files counts (Some f) n code counted same within m upto =
+    let size : m ≤ sum_by lines_in files = omega (arith, upto, within) in
     let given : AreCounted files counts (Some (Input n code)) = subst (λ g. AreCounted files counts (Some g)) same counted in
-    given [] ∙ ap (λ all. file_line all n) (append-nil (map lines_in files)) ∙ file_line-last files n within
+    given [] m upto ∙ ap (λ all. file_line all m) (append-nil (map lines_in files)) ∙ file_line-last files m size
+
+-- where the header of a line's tap stands, by counts that place each line before that line alike
+header-stands : (counts others : List ℕ) (n : ℕ) (header : Option ℕ) → ((m : ℕ) → m ≤ n → file_line counts m ≡ file_line others m) → header_stands counts n header ≡ header_stands others n header
+header-stands counts others n None alike = refl
+header-stands counts others n (Some header) alike =
+    elim (cases_Bool (nat_lt header n)) [
+      | inl before ↦
+          let less : header < n = ltb-true header n before in
+          let upto : header ≤ n = omega (arith, less) in
+          rw before (ap (λ at. Some at) (alike header upto))
+      | inr past ↦ rw past refl
+    ]
 
 -- an input has one reading, whatever its last line's end
 input-joined : (files : List (List ℕ)) → input_of Bundle (flat_map (ended false) files) ≡ input_of Bundle (joined files)
@@ -358,14 +374,19 @@ unrecorded lefts counts given t (Err (Refused refusal)) all same why =
     let input : input_of Bundle text ≡ Err (Input refusal.number refusal.code) = err-read (input_of Bundle text) (Input refusal.number refusal.code) is.0 in
     let within = refused-within text refusal.number refusal.code input in
     let size : refusal.number ≤ sum_by lines_in files = omega (arith, within, lines-files files) in
+    let same-line : (m : ℕ) → m ≤ refusal.number → file_line given m ≡ file_line (line_counts files) m = λ m upto.
+    ap (λ all. file_line all m) same
+    ∙ stands-at files counts t.reader.fault refusal.number refusal.code all.2.counted (own text t.reader t.reader.fault refusal.number refusal.code refl all.2.read input) size m upto
+    in
+    let whole : refusal.number ≤ refusal.number = omega (arith) in
     record {
       files = files;
       told = all.1;
       refused = ap taps_read (sym (input-joined files)) ∙ is.0;
-      stands = is.1 ∙ ap (λ all. file_line all refusal.number) same
-          ∙ stands-at files counts t.reader.fault refusal.number refusal.code all.2.counted (own text t.reader t.reader.fault refusal.number refusal.code refl all.2.read input) size;
+      stands = is.1 ∙ same-line refusal.number whole;
       line = subst (λ pieces. IsTold refusal.code (slice_get pieces (refusal.number - 1)) refusal.line) (pieces-joined files) is.2;
       header = is.3 ∙ ap (λ lines. header_told refusal.code lines refusal.line) (lines-joined files);
+      header_at = is.4 ∙ header-stands given (line_counts files) refusal.number refusal.header same-line;
     }
 unrecorded lefts counts given t (Err (Unread file)) all same why = absurd (why (flat_map (ended false) all.0) all.2.read)
 unrecorded lefts counts given t (Err Memory) all same why = tt

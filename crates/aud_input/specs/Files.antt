@@ -1,5 +1,5 @@
 -- The files of an input, by what their readers have left, and what is read of them.
-use Rattle.std.specs.Prelude.{◌≡◌, ℕ, ◌-◌, ◌<◌, List, [], ◌∷◌, length, map, sum_by, slice_get, Option, Some, None, option_map, IfSome, Result, Ok, Err}
+use Rattle.std.specs.Prelude.{◌≡◌, ℕ, ◌-◌, ◌<◌, nat_lt, List, [], ◌∷◌, length, map, sum_by, slice_get, if◌then◌else◌, Option, Some, None, option_map, IfSome, Result, Ok, Err}
 use Rattle.aud_tap.specs.declared.taps.Tap.{Tap}
 use Rattle.aud_reader.specs.declared.fault.InputCode.{InputCode}
 use Rattle.aud_reader.specs.declared.fault.InputCode.TheVariants.{LineTooLong, SecondStream}
@@ -16,6 +16,7 @@ use Rattle.aud_input.specs.declared.reading.Size.{Size}
 use Rattle.aud_input.specs.declared.reading.ReadingFault.{ReadingFault}
 use Rattle.aud_input.specs.declared.reading.ReadingFault.TheVariants.{Refused, Unread, Memory}
 use Rattle.aud_input.specs.declared.refusal.Refusal.{Refusal}
+use Rattle.aud_input.specs.declared.place.FileLine.{FileLine}
 use Rattle.aud_input.specs.FileLine.{file_line}
 
 -- the bytes of each file are those that its reader has left, where the reader tells them
@@ -65,6 +66,11 @@ abbrev pub header_told : InputCode → List TapLines → List ℕ → Option ℕ
 header_told SecondStream lines line = None
 header_told code lines line = first_like lines line
 
+-- where that header stands in its file, where it stands before the line of this number; so many lines have the files
+abbrev pub header_stands : List ℕ → ℕ → Option ℕ → Option FileLine
+header_stands counts number None = None
+header_stands counts number (Some header) = if nat_lt header number then Some (file_line counts header) else None
+
 -- of files that are read as one input: the line is the first that is refused, and stands there in that file; its bytes
 -- are those of the line with this number, and the header is that of the tap that they name
 pub record IsRefused (lefts : List (Option (List ℕ))) (refusal : Refusal) : Type 0 where
@@ -74,6 +80,7 @@ pub record IsRefused (lefts : List (Option (List ℕ))) (refusal : Refusal) : Ty
   pub stands : refusal.at ≡ file_line (line_counts files) refusal.number
   pub line : IsTold refusal.code (slice_get (line_pieces (joined files)) (refusal.number - 1)) refusal.line
   pub header : refusal.header ≡ header_told refusal.code (tap_lines_of (joined files)) refusal.line
+  pub header_at : refusal.header_at ≡ header_stands (line_counts files) refusal.number refusal.header
 
 -- why files are not recorded: a line is refused, or one of them could not be read
 abbrev pub AreUnrecorded : List (Option (List ℕ)) → ReadingFault → Type 0

@@ -1,6 +1,5 @@
 //! The index of the lines of an input.
 ghost use Rattle.std.specs.Prelude.{◌≡◌, List, OnOk, None};
-ghost use Rattle.aud_reader.specs.declared.line.Line.{Line};
 ghost use Rattle.aud_input.specs.TapLines.{NamedLine, no_lines, noted, with_line, with_lines, named_at};
 ghost use Rattle.std.specs.List.{cons_option};
 ghost use Rattle.aud_input.specs.Private.Kept.{KeepsPlaces, place_in, so_far};

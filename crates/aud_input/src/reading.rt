@@ -13,7 +13,7 @@ use crate::feeding::{Feeding, MAX_PIECE, PIECE, READ_LIMIT};
 use crate::input::{Input, Layout};
 use crate::place::file_line;
 use crate::reader::InputReader;
-use crate::refusal::Refusal;
+use crate::refusal::{Refusal, header_stands};
 use crate::tap_lines::RecordLines;
 use aud_base::{RunFault, Watched};
 use aud_reader::{InputCode, ReadFault};
@@ -259,6 +259,7 @@ fn refusal(
         at: file_line(counts, number),
         line,
         header,
+        header_at: header_stands(counts, number, header),
     })
 }
 

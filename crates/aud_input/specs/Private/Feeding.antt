@@ -14,7 +14,7 @@ use Rattle.aud_input.specs.declared.reading.Recorded.{Recorded}
 use Rattle.aud_input.specs.declared.reading.ReadingFault.{ReadingFault}
 use Rattle.aud_input.specs.declared.reading.ReadingFault.TheVariants.{Refused, Unread, Memory}
 use Rattle.aud_input.specs.FileLine.{file_line}
-use Rattle.aud_input.specs.Files.{AreTold, IsTold, header_told, taps_read}
+use Rattle.aud_input.specs.Files.{AreTold, IsTold, header_stands, header_told, taps_read}
 use Rattle.aud_input.specs.declared.feeding.Feeding.{Feeding}
 
 -- no more bytes were taken in than the pieces may have
@@ -58,10 +58,12 @@ pub record EndsFile (old new : Feeding) : Type 0 where
 abbrev pub counts_after : ℕ → InputSoFar → List ℕ → List ℕ
 counts_after before s counts = if is_none s.fault then counts ++ (lines_noted s.index - before) ∷ [] else counts
 
--- how many lines each of these files has, or those of them that stand before the line that is refused
+-- how many lines each of these files has, or those of them that stand before the line that is refused: enough to say
+-- where it stands, and each line before it
 abbrev pub AreCounted : List (List ℕ) → List ℕ → Option ReadFault → Type 0
 AreCounted files counts None = counts ≡ map (λ file. length (line_pieces file)) files
-AreCounted files counts (Some (Input n code)) = (later : List ℕ) → file_line counts n ≡ file_line (map (λ file. length (line_pieces file)) files ++ later) n
+AreCounted files counts (Some (Input n code)) =
+    (later : List ℕ) (m : ℕ) → m ≤ n → file_line counts m ≡ file_line (map (λ file. length (line_pieces file)) files ++ later) m
 AreCounted files counts (Some kind.Memory) = Unit {0}
 
 -- these bytes were taken in
@@ -91,6 +93,7 @@ abbrev pub IsRefusedOf : List ℕ → List ℕ → ReadingFault → Type 0
 IsRefusedOf bytes counts (Refused refusal) =
     (taps_read (input_of Bundle bytes) ≡ Err (Input refusal.number refusal.code)) × (refusal.at ≡ file_line counts refusal.number)
     × IsTold refusal.code (slice_get (line_pieces bytes) (refusal.number - 1)) refusal.line × (refusal.header ≡ header_told refusal.code (tap_lines_of bytes) refusal.line)
+    × (refusal.header_at ≡ header_stands counts refusal.number refusal.header)
 IsRefusedOf bytes counts (Unread file) = ⊥
 IsRefusedOf bytes counts Memory = Unit {0}
 
