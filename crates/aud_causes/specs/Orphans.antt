@@ -95,9 +95,8 @@ begins conn _ = false
 
 -- nothing says that the tap has the connection from its beginning: the stay is the tap's first one, in its first
 -- connection, and doesn't begin with the client's CONNECT
-abbrev pub began_late : Cluster → ℕ → ℕ → StaySeen → Bool
-began_late c client number stay =
-    nat_eq number 0 && begins stay.c (client_record c client 0) && not (is_asked_first c client number)
+abbrev pub began_late : Cluster → ℕ → ℕ → StaySeen → Bool → Bool
+began_late c client number stay asked_first = nat_eq number 0 && begins stay.c (client_record c client 0) && not asked_first
 
 -- ---- the connection's end
 
@@ -129,9 +128,12 @@ abbrev pub without_reply : ℕ → Option AskedSeen → Option ClientRec → Boo
 without_reply number (Some asked) next late = cause_if (may_be_cut next) (CutBeforeReply number)
 without_reply number None next late = cause_if late (TapBeganLate number)
 
--- the client asked for a session, and no reply is recorded, though nothing says that the connection was cut before it
-abbrev pub reply_lost : ℕ → Option AskedSeen → Option ClientRec → Option Cause
-reply_lost client asked next = cause_if (is_some asked && not (is_cut next)) (ReplyMissing client)
+-- no reply is recorded: the client asked for a session, and nothing says that the connection was cut before the reply; or it
+-- asked for none, and its CONNECT is the first of the namespace on the connection, so that no event comes before its
+-- reply (Socket.IO protocol 5, "Connection to a namespace")
+abbrev pub reply_lost : ℕ → Option AskedSeen → Bool → Option ClientRec → Option Cause
+reply_lost client (Some asked) connected next = cause_if (not (is_cut next)) (ReplyMissing client)
+reply_lost client None connected next = cause_if connected (ReplyMissing client)
 
 -- in the stay before no session was asked for, and it doesn't begin with the client's CONNECT
 abbrev pub out_after_answer : ℕ → ℕ → StaySeen → Bool → Option Cause
@@ -155,13 +157,19 @@ abbrev pub causes_of_before : Cluster → ℕ → ℕ → Option ℕ → List Ca
 causes_of_before c client number None = []
 causes_of_before c client number (Some before) = before_causes c client number before (slice_get (stays_at c client) before)
 
--- of events in this stay, where it has no reply
+-- of events in this stay without a reply, where the stay before it, if there is one, has this number; and whether it begins
+-- with the client's CONNECT
+abbrev pub causes_without_reply : Cluster → ℕ → ℕ → StaySeen → Option ℕ → Bool → List Cause
+causes_without_reply c client number stay before asked_first =
+    held
+    (without_reply number stay.asked (next_of_stay c client number) (began_late c client number stay asked_first)
+    ∷ reply_lost client stay.asked (asked_first && is_none before) (next_of_stay c client number) ∷ [])
+    ++ causes_of_before c client number before
+
+-- the same, by the stays of the client's tap
 abbrev pub unreplied_causes : Cluster → ℕ → ℕ → StaySeen → List Cause
 unreplied_causes c client number stay =
-    held
-    (without_reply number stay.asked (next_of_stay c client number) (began_late c client number stay)
-    ∷ reply_lost client stay.asked (next_of_stay c client number) ∷ [])
-    ++ causes_of_before c client number (stay_before (stays_at c client) number stay)
+    causes_without_reply c client number stay (stay_before (stays_at c client) number stay) (is_asked_first c client number)
 
 -- of events in a stay with this reply, or without one: the reply names nobody
 abbrev pub replied_causes : Cluster → ℕ → ℕ → StaySeen → Option ReplySeen → List Cause

@@ -8,7 +8,7 @@ use crate::cause::Cause;
 use crate::facts::{Facts, Replay};
 use crate::list::front_of;
 use crate::live::is_replayed;
-use aud_cert::{Certificate, Turn};
+use aud_cert::Certificate;
 use aud_client::{Frame, Recording, Stay};
 use aud_maker::made_is_over;
 use aud_rooms::due_of;

@@ -15,7 +15,8 @@ use aud_tap::Tap;
 use std::alloc::{AllocError, Global};
 
 /// Where not exactly one client's tap names the session. Where none does it costs the stays of the clients' taps, up to
-/// the first that was not answered, and the session's own records; of a stay without a reply it reads the last record.
+/// the first that was not answered, and the session's own records; of a stay without a reply in which no session is asked
+/// for it reads the last record.
 pub(crate) fn client_causes(
     alloc: Global,
     recording: &Recording<'_>,
@@ -100,9 +101,12 @@ fn is_unanswered(
     if stay.reply.is_some() {
         return Ok(false);
     }
+    if stay.asked.is_some() {
+        return Ok(true);
+    }
     let last = last_of_stay(recording, client, number);
     let ended = is_disconnect(alloc, stay.nsp, last)?;
-    Ok(stay.asked.is_some() || !ended)
+    Ok(!ended)
 }
 
 /// What differs between the replies in these stays, which name the session, and the session's `open`, where these are its

@@ -64,14 +64,16 @@ fn unreplied_causes(
     ensures { IfOk result (λ found. found.items
         ≡ unreplied_causes recording.now client number stay.now) }
 {
-    let late = began_late(recording, client, number, stay);
+    let asked_first = is_asked_first(recording, client, number);
+    let late = began_late(recording, client, number, stay, asked_first);
     let next = next_of_stay(recording, client, number);
     let before = stay_before(recording, client, number, stay);
+    let connected = asked_first && before.is_none();
     let mut found = held(
         alloc,
         &[
             without_reply(number, stay, next, late),
-            reply_lost(client, stay, next),
+            reply_lost(client, stay, connected, next),
         ],
     )?;
     push_before(alloc, recording, &mut found, client, number, before)?;
@@ -97,17 +99,21 @@ fn without_reply(
     }
 }
 
-/// Where the client asked for a session, and nothing says that the connection was cut before the reply.
-fn reply_lost(client: usize, stay: &Stay<'_>, next: Option<&ClientRec>) -> Option<Cause>
-    ensures { result ≡ reply_lost client stay.now.asked (option_copied next.entry) }
+/// Where the client asked for a session, and nothing says that the connection was cut before the reply; or where it asked
+/// for none, and its CONNECT is the first of the namespace on the connection.
+fn reply_lost(
+    client: usize,
+    stay: &Stay<'_>,
+    connected: bool,
+    next: Option<&ClientRec>,
+) -> Option<Cause>
+    ensures { result ≡ reply_lost client stay.now.asked connected (option_copied next.entry) }
 {
-    if stay.asked.is_none() {
-        return None;
-    }
-    match next {
-        Some(ClientRec::Lost | ClientRec::Conn { .. }) => None,
-        _ => Some(Cause::ReplyMissing { client }),
-    }
+    let lost = match &stay.asked {
+        Some(_) => !matches!(next, Some(ClientRec::Lost | ClientRec::Conn { .. })),
+        None => connected,
+    };
+    lost.then_some(Cause::ReplyMissing { client })
 }
 
 /// The record after the last one of the stay with this number of the client's tap at this place.
@@ -124,13 +130,17 @@ fn next_of_stay<'a>(
 
 /// Whether nothing says that the tap has the connection from its beginning: the stay is the tap's first one, in its
 /// first connection, and doesn't begin with the client's CONNECT.
-fn began_late(recording: &Recording<'_>, client: usize, number: usize, stay: &Stay<'_>) -> bool
-    ensures { result ≡ began_late recording.now client number stay.now }
+fn began_late(
+    recording: &Recording<'_>,
+    client: usize,
+    number: usize,
+    stay: &Stay<'_>,
+    asked_first: bool,
+) -> bool
+    ensures { result ≡ began_late recording.now client number stay.now asked_first }
 {
     match client_record(recording, client, 0) {
-        Some(ClientRec::Conn { c }) if number == 0 && *c == stay.c => {
-            !is_asked_first(recording, client, number)
-        }
+        Some(ClientRec::Conn { c }) if number == 0 && *c == stay.c => !asked_first,
         _ => false,
     }
 }

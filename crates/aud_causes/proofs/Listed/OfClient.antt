@@ -48,8 +48,9 @@ without_listed : (number : ℕ) (asked : Option AskedSeen) (next : Option Client
 without_listed number (Some asked) next late = of_if in_orphan (may_be_cut next) (CutBeforeReply number) refl
 without_listed number None next late = of_if in_orphan late (TapBeganLate number) refl
 
-lost_listed : (client : ℕ) (asked : Option AskedSeen) (next : Option ClientRec) → OfSome in_orphan (reply_lost client asked next)
-lost_listed client asked next = of_if in_orphan (is_some asked && not (is_cut next)) (ReplyMissing client) refl
+lost_listed : (client : ℕ) (asked : Option AskedSeen) (connected : Bool) (next : Option ClientRec) → OfSome in_orphan (reply_lost client asked connected next)
+lost_listed client (Some asked) connected next = of_if in_orphan (not (is_cut next)) (ReplyMissing client) refl
+lost_listed client None connected next = of_if in_orphan connected (ReplyMissing client) refl
 
 answered_listed : (number before : ℕ) (stay : StaySeen) (first : Bool) → list_all in_orphan (answered_causes number before stay first) ≡ true
 answered_listed number before stay first =
@@ -72,12 +73,14 @@ of_before_listed c client number (Some before) = before_listed c client number b
 
 unreplied_listed : (c : Cluster) (client number : ℕ) (stay : StaySeen) → list_all in_orphan (unreplied_causes c client number stay) ≡ true
 unreplied_listed c client number stay =
-    let late = began_late c client number stay in
+    let first = is_asked_first c client number in
+    let late = began_late c client number stay first in
     let next = next_of_stay c client number in
     let before = stay_before (stays_at c client) number stay in
-    let causes = without_reply number stay.asked next late ∷ reply_lost client stay.asked next ∷ [] in
+    let connected = first && is_none before in
+    let causes = without_reply number stay.asked next late ∷ reply_lost client stay.asked connected next ∷ [] in
     of_both in_orphan (held causes) (causes_of_before c client number before)
-    (of_held in_orphan causes (without_listed number stay.asked next late, (lost_listed client stay.asked next, tt)))
+    (of_held in_orphan causes (without_listed number stay.asked next late, (lost_listed client stay.asked connected next, tt)))
     (of_before_listed c client number before)
 
 replied_listed : (c : Cluster) (client number : ℕ) (stay : StaySeen) (reply : Option ReplySeen) → list_all in_orphan (replied_causes c client number stay reply) ≡ true
