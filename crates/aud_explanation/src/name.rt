@@ -113,7 +113,8 @@ pub(crate) fn push_named(
     none: &str,
 ) -> Result<(), AllocError>
     ensures { OnOk result (string_bytes out.new
-        ≡ string_bytes out.old ++ named_words names words.now (option_copied name.entry) none.now) }
+        ≡ string_bytes out.old
+        ++ named_words names words.now (option_copied name.entry) none.now) }
 {
     match name {
         Some(name) => {

@@ -7,7 +7,7 @@ ghost use Rattle.aud_node.specs.Cluster.{Cluster};
 ghost use Rattle.aud_rows.specs.ClientPlaces.{AreOf};
 ghost use Rattle.aud_findings.specs.Prepared.{AreRead, IsPreparedOf, IsRead, tap_in};
 ghost use Rattle.aud_findings.specs.Private.Held.{held_places};
-ghost use Rattle.aud_findings.specs.Private.Wanted.{AreWanted, IsReadBy};
+ghost use Rattle.aud_findings.specs.Private.Wanted.{IsReadBy};
 
 use crate::orphan::orphan_at;
 use crate::unordered::first_unordered;

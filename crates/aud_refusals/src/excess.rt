@@ -1,11 +1,10 @@
 //! Members that are outside their limits.
-ghost use Rattle.std.specs.Prelude.{◌≡◌, ◌+◌, ◌^◌, ◌<◌, Option, List, ℕ, length, option_map, option_and_then};
-ghost use Rattle.aud_json.specs.View.{field_view, list_view, text_view, view};
-ghost use Rattle.serde_json.specs.Find.{as_array, as_str};
-ghost use Rattle.aud_refusals.specs.Excess.{count_excess, excess_of, first_excess, items_count, items_excess, length_excess, list_at, rooms_excess, text_excess};
+ghost use Rattle.std.specs.Prelude.{◌≡◌, ◌+◌, ◌<◌, Option, length, option_map};
+ghost use Rattle.aud_json.specs.View.{list_view, view};
+ghost use Rattle.aud_refusals.specs.Excess.{count_excess, excess_of, first_excess, items_excess, length_excess, rooms_excess};
 
 use crate::member::{Member, number_at, text_at};
-use aud_json::{Field, Fields};
+use aud_json::Fields;
 use aud_tap::limits::{
     MAX_ATTACHMENTS, MAX_ID, MAX_NAMESPACE, MAX_OFFSET, MAX_ROOM, MAX_ROOMS, fits,
 };

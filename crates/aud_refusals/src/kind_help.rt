@@ -1,5 +1,5 @@
 //! Help on a line whose kind, header or offset does not fit in its tap.
-ghost use Rattle.std.specs.Prelude.{◌≡◌, ◌++◌, OnOk, option_map, string_bytes};
+ghost use Rattle.std.specs.Prelude.{◌≡◌, ◌++◌, OnOk, string_bytes};
 ghost use Rattle.aud_json.specs.View.{view};
 ghost use Rattle.aud_reader.specs.Record.{tap_of_kind};
 ghost use Rattle.aud_refusals.specs.KindHelp.{header_text, kind_help, offset_help, owner_text, second_help, version_help};

@@ -1,6 +1,6 @@
 //! The members of a line's object.
-ghost use Rattle.std.specs.Prelude.{◌≡◌, is_some, IfOk, option_map, option_and_then};
-ghost use Rattle.aud_json.specs.View.{field_view, text_view, view};
+ghost use Rattle.std.specs.Prelude.{◌≡◌, is_some, IfOk, option_map};
+ghost use Rattle.aud_json.specs.View.{view};
 ghost use Rattle.aud_tap.specs.Json.{text_at};
 ghost use Rattle.aud_reader.specs.Fields.{blobs_at, decoded, number_at, texts_at};
 ghost use Rattle.aud_refusals.specs.Members.{is_formed, key_of};

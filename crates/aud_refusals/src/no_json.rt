@@ -1,5 +1,5 @@
 //! Why a text is no JSON that is read.
-ghost use Rattle.std.specs.Prelude.{◌≡◌, ◌++◌, ◌≤◌, IfOk, OnOk, length, map, string_bytes};
+ghost use Rattle.std.specs.Prelude.{◌≡◌, ◌++◌, IfOk, OnOk, map, string_bytes};
 ghost use Rattle.json.specs.Lex.{tokens};
 ghost use Rattle.json.specs.Reads.{token_of};
 ghost use Rattle.aud_refusals.specs.NoJson.{bytes_front, depth_after, depth_of, fault_in, is_json, no_d, no_json, no_json_text, read_from, token_front};

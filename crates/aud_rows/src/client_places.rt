@@ -1,8 +1,7 @@
 //! Where the connections of a client's tap begin and are lost.
 ghost use Rattle.std.specs.Prelude.{◌≡◌, ◌++◌, ◌∷◌, [], IfOk, OnOk, Some, if◌then◌else◌};
 ghost use Rattle.std.specs.List.Sorted.{IsNonDecreasing};
-ghost use Rattle.aud_node.specs.NodeTaps.{client_at};
-ghost use Rattle.aud_rows.specs.ClientPlaces.{AreOf, marks_in};
+ghost use Rattle.aud_rows.specs.ClientPlaces.{AreOf};
 ghost use Rattle.aud_rows.specs.Marks.{first_past, is_mark, last_before, marks_of};
 
 use aud_node::Logs;

@@ -1,5 +1,5 @@
 //! What a client received of a session, and what was due to it.
-ghost use Rattle.std.specs.Prelude.{◌≡◌, IfOk, MatchOption, Some, [], ◌∷◌, ℕ, map, slice_get};
+ghost use Rattle.std.specs.Prelude.{◌≡◌, IfOk, MatchOption, Some, map, slice_get};
 ghost use Rattle.aud_cert.specs.declared.fault.Fault.{Fault};
 ghost use Rattle.std.specs.List.{All};
 ghost use Rattle.aud_client.specs.Replies.{naming_places};

@@ -1,5 +1,5 @@
 //! The first turn of a session that doesn't end as it may.
-ghost use Rattle.std.specs.Prelude.{◌≡◌, MatchOption, IfSome, true, false, suc, Some, length, slice_get, is_none};
+ghost use Rattle.std.specs.Prelude.{◌≡◌, MatchOption, true, false, suc, Some, length, is_none};
 ghost use Rattle.std.specs.Option.{option_copied};
 ghost use Rattle.aud_node.specs.Cluster.{node_log};
 ghost use Rattle.aud_node.specs.OwnPlaces.{own_places};

@@ -1,7 +1,6 @@
 //! The records of a session that begin or end its turns.
 ghost use Rattle.std.specs.Prelude.{◌≡◌, IfOk, ◌++◌};
 ghost use Rattle.std.specs.Option.{option_copied};
-ghost use Rattle.aud_node.specs.OwnPlaces.{own_places};
 ghost use Rattle.aud_session_facts.specs.Marks.{mark_of, marks_on, turn_marks};
 
 use crate::place::{RecordPlace, record_at};

@@ -1,6 +1,5 @@
 //! Where the frames of a session stand in the stays of its client's tap.
 ghost use Rattle.std.specs.Prelude.{◌≡◌, length, slice_get};
-ghost use Rattle.std.specs.Option.{option_copied};
 ghost use Rattle.aud_session_facts.specs.FramePlaces.{frame_at, frames_of};
 
 use aud_client::Stay;
