@@ -1,5 +1,5 @@
 -- What the clients' taps tell, each by the records of its own lines.
-use Rattle.std.proofs.Common.{◌≡◌, ◌+◌, ◌<◌, ℕ, suc, true, false, List, [], ◌∷◌, ◌++◌, length, map, take, Option, Some, None, option_map, Result, Ok, Err, slice_get, sym, ap, ◌∙◌, subst, arith, append_assoc, append-nil}
+use Rattle.std.proofs.Common.{◌≡◌, ◌+◌, ◌<◌, ℕ, suc, true, false, List, [], ◌∷◌, ◌++◌, length, map, take, Option, Some, None, option_map, Result, Ok, Err, slice_get, refl, sym, ap, ◌∙◌, subst, arith, append_assoc, append-nil}
 use Rattle.std.specs.List.{All, AllZip}
 use Rattle.std.specs.Option.{option_flatten, option_map_or}
 use Rattle.std.proofs.lemmas.Grind.{common_steps}
@@ -31,6 +31,21 @@ use Rattle.aud_parts.proofs.ListSteps.{each-push}
 use Rattle.aud_parts.proofs.ServersLemmas.{never-none}
 
 -- ---- one tap
+
+-- there is none of the name
+pub none-told : (name : List ℕ) (lines : List Line) (taps : List Tap) → HaveTheirOwnLines lines taps → tap_named name taps ≡ None → is_client name lines ≡ false
+none-told name lines taps own named = ap (λ rs. is_clients (slice_get rs 0)) (own name ∙ ap (λ o. option_map_or recs_of o []) named)
+
+-- it is no client's
+pub other-told : (name : List ℕ) (lines : List Line) (taps : List Tap) → HaveTheirOwnLines lines taps → (t : Tap) → tap_named name taps ≡ Some t
+    → ((recs : List ClientRec) → t.records ≡ records.Client recs → ⊥) → is_client name lines ≡ false
+other-told name lines taps own t named other =
+    ap (λ rs. is_clients (slice_get rs 0)) (own name ∙ ap (λ o. option_map_or recs_of o []) named) ∙ go t.records other
+  where
+    go : (rs : Records) → ((recs : List ClientRec) → rs ≡ records.Client recs → ⊥) → is_clients (slice_get (rec.Header (kind_of_tap rs) t.version ∷ recs_in rs) 0) ≡ false
+    go (records.Stream entries) other = refl
+    go (records.Node recs) other = refl
+    go (records.Client recs) other = absurd (other recs refl)
 
 -- it is a client's
 pub client-told : (name : List ℕ) (lines : List Line) (taps : List Tap) → HaveTheirOwnLines lines taps → (t : Tap) → tap_named name taps ≡ Some t → (stream : List StreamRec) (recs : List ClientRec)

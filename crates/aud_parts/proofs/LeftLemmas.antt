@@ -18,6 +18,12 @@ use Rattle.aud_parts.specs.Private.Kept.{entries_for, tap_of, tap_kept}
 use Rattle.aud_parts.specs.Private.OwnRecords.{is_for, passes_own}
 use Rattle.aud_parts.proofs.OwnLemmas.{tells-own, none-own, any-left, IsOfSessions, opens-of, grants-of}
 
+-- records that aren't a node's have none of a node's
+pub no-node : (records : Records) → ((recs : List NodeRec) → records ≡ Node recs → ⊥) → node_recs (Some records) ≡ []
+no-node (Stream recs) other = refl
+no-node (Node recs) other = absurd (other recs refl)
+no-node (Client recs) other = refl
+
 module _ (pids : List Text) where
   abbrev keep : NodeRec → Bool
   keep = keeps_record (is_among pids)

@@ -74,6 +74,17 @@ pub any-item : {X : Type 0} (p : X → Bool) (xs : List X) (i : ℕ) (x : X) →
 any-item p xs i x within read old new before after =
     after ∙ ap (λ b. b || p x) before ∙ ap (λ y. list_any p (take i xs) || p y) read ∙ sym (list_any_more p xs i x within)
 
+-- the same beside what was tested before
+pub any-more : {X : Type 0} (p : X → Bool) (xs : List X) (i : ℕ) (x : X) → i < length xs → x ≡ get_or xs i x → (first old new : Bool)
+    → old ≡ (first || list_any p (take i xs)) → new ≡ (old || p x) → new ≡ (first || list_any p (take (i + 1) xs))
+any-more p xs i x within read first old new before after =
+    after ∙ ap (λ b. b || p x) before ∙ together first
+    ∙ ap (λ b. first || b) (ap (λ y. list_any p (take i xs) || p y) read ∙ sym (list_any_more p xs i x within))
+  where
+    together : (b : Bool) → ((b || list_any p (take i xs)) || p x) ≡ (b || (list_any p (take i xs) || p x))
+    together true = refl
+    together false = refl
+
 -- whether any of what the elements give passes
 pub any-flat_map : {A B : Type 0} (test : B → Bool) (f : A → List B) (xs : List A) → list_any test (flat_map f xs) ≡ list_any (λ x. list_any test (f x)) xs
 any-flat_map test f [] = refl

@@ -1,5 +1,6 @@
 -- What looking at a line leaves.
-use Rattle.std.proofs.Common.{◌≡◌, ℕ, ◌+◌, ◌<◌, ◌≤◌, ◌==◌, nat_lt, List, [], ◌∷◌, ◌++◌, length, Bool, true, false, cond, inl, inr, Option, Some, None, is_some, Result, Ok, Err, OnOk, slice_get, bytes_eq, refl, sym, ap, ◌∙◌, subst, arith}
+use Rattle.std.proofs.Common.{◌≡◌, ℕ, ◌+◌, ◌-◌, ◌<◌, ◌≤◌, ◌==◌, nat_lt, List, [], ◌∷◌, ◌++◌, length, length-take, take, Bool, true, false, cond, inl, inr, Option, Some, None, is_some, Result, Ok, Err, OnOk, slice_get, bytes_eq, refl, sym, ap, ◌∙◌, subst, arith}
+use Rattle.std.specs.Int.{from_bool}
 use Rattle.std.proofs.lemmas.Bool.{cases_Bool, lt-ltb, ltb-true}
 use Rattle.aud_base.specs.Places.{noted as place_noted, places_of}
 use Rattle.aud_node.specs.Lists.{is_empty}
@@ -7,11 +8,12 @@ use Rattle.aud_reader.specs.declared.fault.InputCode.TheVariants.{LineTooLong, N
 use Rattle.aud_reader.specs.declared.fault.ReadFault.TheVariants.{Input}
 use Rattle.aud_reader.specs.Lines.{is_too_long, without_return}
 use Rattle.aud_input.specs.LineName.{name_of}
+use Rattle.aud_parts.specs.declared.tap_index.Begun.{Begun}
 use Rattle.aud_parts.specs.declared.tap_index.TapIndex.{TapIndex}
 use Rattle.aud_parts.specs.declared.tap_index.tap_runs.Run.{Run}
 use Rattle.aud_parts.specs.declared.tap_index.tap_runs.RunsByTap.{RunsByTap}
 use Rattle.aud_parts.specs.TapRuns.{TapRuns}
-use Rattle.aud_parts.specs.IndexSoFar.{AreOnce, Indexed, KeepsPlaces, Notes, changed, noted, noted_at, noted_in, place_in, refused, run_of, so_far, with_bytes, with_line, with_name, with_run}
+use Rattle.aud_parts.specs.IndexSoFar.{AreOnce, Indexed, IsBegun, KeepsPlaces, Notes, changed, ends_in_return, noted, noted_at, noted_in, place_in, refused, run_of, so_far, with_bytes, with_line, with_name, with_run}
 use Rattle.aud_parts.specs.Private.IndexSteps.{Looks, placed_at}
 use Rattle.aud_parts.proofs.NotedLemmas.{once-changed, once-push, place-changed, places-push}
 
@@ -53,6 +55,14 @@ noted-new (Ok x) old new name line none keeps put last places =
     }
 
 -- ---- the line that has begun
+
+-- its length without the carriage return at its end
+pub measured-is : (b : Begun) (text : List ℕ) (ending size : ℕ) → IsBegun b b.from text → ending ≡ from_bool b.returns → size ≡ b.size - ending → size ≡ length (without_return text)
+measured-is b text ending size begun ends less = less ∙ ap (λ n. n - ending) begun.sized ∙ ap (λ n. length text - n) (ends ∙ ap from_bool begun.returns) ∙ go (ends_in_return text)
+  where
+    go : (t : Bool) → length text - from_bool t ≡ length (cond t (take (length text - 1) text) text)
+    go true = let size = length-take (length text - 1) text in omega (arith, size)
+    go false = omega arith
 
 not-less : (a b : ℕ) → b ≤ a → nat_lt a b ≡ false
 not-less a b h = elim (cases_Bool (nat_lt a b)) [ inl yes1 ↦ let l = ltb-true a b yes1 in absurd (omega (arith, l, h)) | inr no1 ↦ no1 ]

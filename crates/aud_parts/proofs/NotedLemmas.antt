@@ -1,7 +1,7 @@
 -- The taps of an index, with one line more.
 use Rattle.std.proofs.Common.{◌≡◌, ℕ, zero, suc, ◌==◌, ◌&&◌, List, [], ◌∷◌, ◌++◌, length, map, set, Bool, true, false, cond, ◌⊎◌, inl, inr, Option, Some, None, option_map, is_some, slice_get, bytes_eq, refl, sym, ap, ◌∙◌, subst, arith, ◌||◌}
 use Rattle.std.specs.List.{list_any}
-use Rattle.std.specs.Option.{option_and_then}
+use Rattle.std.specs.Option.{option_and_then, option_map_or}
 use Rattle.std.proofs.lemmas.Bool.{and_parts, eqb-true, false≢true}
 use Rattle.std.proofs.lemmas.List.{map-append}
 use Rattle.std.proofs.lemmas.Option.{none-some, same_Some}
@@ -65,6 +65,14 @@ longer-is goes_on line (run ∷ next ∷ runs) = go (longer-is goes_on line (nex
         inr (record { front = run ∷ g.front; run = g.run; are = ap (λ rs. run ∷ rs) g.are; last = g.last; may = g.may; in_file = g.in_file; with_line = ap (λ rs. run ∷ rs) g.with_line })
 
 -- ---- places
+
+-- that of the tap whose line came last
+pub last-place : (taps : List TapRuns) (last : ℕ) (name : List ℕ) → AreOnce taps → option_map_or (λ (tap : TapRuns). bytes_eq tap.name name) (slice_get taps last) false ≡ true → place_in taps name ≡ Some last
+last-place taps last name once e = go (slice_get taps last) refl e
+  where
+    go : (o : Option TapRuns) → slice_get taps last ≡ o → option_map_or (λ (tap : TapRuns). bytes_eq tap.name name) o false ≡ true → place_in taps name ≡ Some last
+    go None is e = absurd (false≢true e)
+    go (Some tap) is e = ap (place_in taps) (sym (same_text tap.name name e)) ∙ once last tap is
 
 index-push-some : {X : Type 0} (p : X → Bool) (xs : List X) (x : X) (i : ℕ) → first_index p xs ≡ Some i → first_index p (xs ++ x ∷ []) ≡ Some i
 index-push-some p [] x i e = absurd (none-some i e)

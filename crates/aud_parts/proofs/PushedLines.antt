@@ -1,5 +1,5 @@
 -- Lines that are added one after the other.
-use Rattle.std.proofs.Common.{◌≡◌, ◌≤◌, ◌+◌, ◌-◌, ℕ, zero, suc, true, false, cond, List, [], ◌∷◌, ◌++◌, length, map, drop, replicate, Option, Some, None, slice_get, refl, sym, ap, ◌∙◌, arith, true≢false, append_assoc, append-nil, length-append}
+use Rattle.std.proofs.Common.{◌≡◌, ◌≤◌, ◌+◌, ◌-◌, ℕ, zero, suc, true, false, cond, List, [], ◌∷◌, ◌++◌, length, map, drop, Option, Some, None, slice_get, refl, sym, ap, ◌∙◌, arith, true≢false, append_assoc, append-nil, length-append}
 use Rattle.std.specs.Option.{option_map_or}
 use Rattle.std.proofs.lemmas.List.{length-map, map-append}
 use Rattle.aud_base.specs.Lists.{numbers_from}
@@ -9,10 +9,6 @@ use Rattle.aud_tap.specs.declared.records.NodeRec.{NodeRec}
 use Rattle.aud_parts.specs.Private.FoundRecords.{comes_from, comes_next, found}
 
 -- ---- the next lines
-
-count-numbers : (first n : ℕ) → length (numbers_from first n) ≡ n
-count-numbers first zero = refl
-count-numbers first (suc n) = ap suc (count-numbers (suc first) n)
 
 module _ (line : ℕ → ℕ) where
   -- with one more of those after the first
@@ -25,16 +21,6 @@ module _ (line : ℕ → ℕ) where
       ∙ ap (λ k. start ++ (all ++ line k ∷ [])) one
       ∙ ap (λ ls. start ++ ls)
       (sym (ap (map line) (ap (map suc) (numbers_from-more n) ∙ map-append suc (numbers_from 0 n) (n ∷ [])) ∙ map-append line (map suc (numbers_from 0 n)) (suc n ∷ [])))
-
-  -- as many as are asked for
-  pub next-count : (old new : List ℕ) (n : ℕ) → new ≡ old ++ map line (map suc (numbers_from 0 n)) → length new ≡ length old + n
-  next-count old new n more =
-      let all = map line (map suc (numbers_from 0 n)) in
-      let a = ap length more ∙ length-append old all in
-      let b = length-map (map suc (numbers_from 0 n)) line in
-      let d = length-map (numbers_from 0 n) suc in
-      let e = count-numbers 0 n in
-      omega (arith, a, b, d, e)
 
   -- ---- those of the records that are found
 
@@ -119,10 +105,10 @@ module _ (line : ℕ → ℕ) where
 
   -- where as many were found as the part has, no others are added
   pub push-all : (recs part : List NodeRec) (place number : ℕ) (start now new places : List ℕ)
-      → length recs ≤ place → now ++ lines_found recs part place number ≡ start ++ map line (map suc (found 0 recs part)) → length now ≡ length start + number
-      → found 0 recs part ≡ places → length places ≡ length part → new ≡ now ++ replicate (length part - number) 0
+      (other : ℕ → ℕ) → length recs ≤ place → now ++ lines_found recs part place number ≡ start ++ map line (map suc (found 0 recs part)) → length now ≡ length start + number
+      → found 0 recs part ≡ places → length places ≡ length part → new ≡ now ++ map other (map suc (numbers_from 0 (length part - number)))
       → new ≡ start ++ map line (map suc places)
-  push-all recs part place number start now new places past all count is whole more =
+  push-all recs part place number start now new places other past all count is whole more =
       let here : now ≡ start ++ map line (map suc places) =
       sym (append-nil now)
       ∙ ap (λ rs. now ++ map line (map suc (found place rs (drop number part)))) (sym (drop-end recs place past))
@@ -131,7 +117,7 @@ module _ (line : ℕ → ℕ) where
       let b = length-map (map suc places) line in
       let d = length-map places suc in
       let none : length part - number ≡ 0 = omega (arith, a, b, d, count, whole) in
-      more ∙ ap (λ k. now ++ replicate k 0) none ∙ append-nil now ∙ here
+      more ∙ ap (λ k. now ++ map other (map suc (numbers_from 0 k))) none ∙ append-nil now ∙ here
     where
       drop-end : {X : Type 0} (xs : List X) (n : ℕ) → length xs ≤ n → drop n xs ≡ []
       drop-end [] zero h = refl

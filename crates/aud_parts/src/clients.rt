@@ -5,11 +5,10 @@ pub mod measured;
 ghost use Rattle.std.specs.Prelude.{◌≡◌, ◌++◌, ◌∷◌, [], ℕ, List, IfOk, OnOk, None, Some, map};
 ghost use Rattle.std.specs.List.{All};
 ghost use Rattle.aud_reader.specs.declared.line.Line.{Line};
-ghost use Rattle.aud_reader.specs.OwnLines.{HaveTheirOwnLines};
 ghost use Rattle.aud_parts.specs.ClientsRead.{AreToldOf, others_among};
 ghost use Rattle.aud_parts.specs.ServersRead.{kind_told};
 ghost use Rattle.aud_parts.specs.TapRuns.{MayBeRead, TapRuns};
-ghost use Rattle.aud_parts.specs.Private.ClientSteps.{AreSoFar, AreTold, IsMeasured, IsTold, clients_told, refused_told};
+ghost use Rattle.aud_parts.specs.Private.ClientSteps.{AreSoFar, AreTold, IsTold, clients_told, refused_told};
 ghost use Rattle.aud_parts.specs.Private.TapsRead.{HoldsLines, IsReadOf};
 
 use crate::clients::facts::client_facts;
@@ -21,7 +20,7 @@ use crate::tap_index::tap_runs::{IndexedTaps, RunSource, TapRuns};
 use aud_base::{RunFault, try_map};
 use aud_node::Stream;
 use aud_reader::ReadFault;
-use aud_tap::{Records, Taps};
+use aud_tap::Records;
 use std::alloc::{AllocError, Global};
 use std::hash::RandomState;
 use std::thread::Threads;
@@ -29,31 +28,6 @@ use std::thread::Threads;
 /// The most bytes of clients' taps that are held at once: of taps that are read side by side. A tap that has more is read
 /// by itself.
 const MOST_HELD: u64 = 33_554_432;
-
-/// What a client's tap tells whose lines have so many bytes, and the first of them so many; none where they are read as
-/// no such tap.
-fn measure(
-    alloc: Global,
-    stream: &Stream<'_>,
-    tap: &TapRuns,
-    read: &Taps,
-    first: u64,
-    bytes: u64,
-) -> Result<Option<MeasuredClient>, AllocError>
-    ensures { (lines : List Line) → HaveTheirOwnLines lines read.now
-        → IfOk result (IsMeasured stream.now tap.now.name lines) }
-{
-    let Some(one) = tap_named(read.as_slice(), tap.name()) else {
-        return Ok(None);
-    };
-    let Records::Client(records) = &one.records else {
-        return Ok(None);
-    };
-    let facts = client_facts(alloc, records.as_slice(), stream)?;
-    let header = client_header(alloc, tap.name())?.len() as u64;
-    let bytes = bytes.saturating_sub(first).saturating_add(header);
-    Ok(Some(MeasuredClient { facts, bytes }))
-}
 
 /// What is told of a client's tap: nothing, where it is read as no such tap.
 type Told = Result<Option<MeasuredClient>, RefusedLine>;
@@ -74,11 +48,21 @@ fn told_of(
         bytes,
         ..
     } = read;
-    match read {
-        Ok(read) => Ok(Ok(measure(alloc, stream, tap, &read, first, bytes)?)),
-        Err(ReadFault::Input(number, code)) => Ok(Err(RefusedLine { number, code })),
-        Err(ReadFault::Memory) => Err(AllocError),
-    }
+    let taps = match read {
+        Ok(taps) => taps,
+        Err(ReadFault::Input(number, code)) => return Ok(Err(RefusedLine { number, code })),
+        Err(ReadFault::Memory) => return Err(AllocError),
+    };
+    let Some(one) = tap_named(taps.as_slice(), tap.name()) else {
+        return Ok(Ok(None));
+    };
+    let Records::Client(records) = &one.records else {
+        return Ok(Ok(None));
+    };
+    let facts = client_facts(alloc, records.as_slice(), stream)?;
+    let header = client_header(alloc, tap.name())?.len() as u64;
+    let bytes = bytes.saturating_sub(first).saturating_add(header);
+    Ok(Ok(Some(MeasuredClient { facts, bytes })))
 }
 
 /// A client's tap, and the bytes of its runs.

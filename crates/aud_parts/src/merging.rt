@@ -3,7 +3,7 @@ pub mod fault;
 pub mod laws;
 pub mod report_lines;
 
-ghost use Rattle.std.specs.Prelude.{◌≡◌, ◌<◌, ◌+◌, ◌^◌, ◌++◌, [], slice_get, List, ℕ, IfOk, IfSome, IsTrue, OnOk, map, option_map, option_to_list, length, replicate, take};
+ghost use Rattle.std.specs.Prelude.{◌≡◌, ◌<◌, ◌+◌, ◌^◌, ◌++◌, [], slice_get, List, ℕ, IfOk, IfSome, IsTrue, OnOk, map, length, replicate, take};
 ghost use Rattle.std.specs.List.{list_all};
 ghost use Rattle.aud_base.specs.Places.{places_of};
 ghost use Rattle.aud_parts.specs.Listing.{are_within, is_within};
@@ -74,17 +74,6 @@ fn take_report<'a>(
         slots[part] = Some(lines);
     }
     Ok(None)
-}
-
-/// So many parts without a report.
-fn empty_slots<'a>(alloc: Global, count: usize) -> Result<Slots<'a>, AllocError>
-    ensures { IfOk result (λ slots. slots.items ≡ replicate count None) }
-{
-    let mut slots = Vec::new(alloc);
-    for _i in 0..count {
-        slots.push(None)?;
-    }
-    Ok(slots)
 }
 
 /// Puts to each part the lines of the first report on it, and to the faults what is wrong with the reports, and
@@ -230,7 +219,11 @@ pub fn merge(
     ensures { IfOk result (λ answer. answer ≡ merged listing.now reports.now) }
 {
     let parts = pids_by_part(alloc, listing)?;
-    let mut slots = empty_slots(alloc, parts.len())?;
+    let count = parts.len();
+    let mut slots = Vec::new(alloc);
+    for _part in 0..count {
+        slots.push(None)?;
+    }
     let mut faults = Vec::new(alloc);
     gather(alloc, keys, &parts, reports, &mut slots, &mut faults)?;
     answer(alloc, listing.sessions.as_slice(), &slots, faults)

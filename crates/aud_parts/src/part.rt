@@ -6,9 +6,9 @@ pub mod own_records;
 pub mod server_text;
 pub mod text;
 
-ghost use Rattle.std.specs.Prelude.{◌≡◌, IfOk, map};
+ghost use Rattle.std.specs.Prelude.{◌≡◌, IfOk};
 ghost use Rattle.std.specs.List.{filter_map};
-ghost use Rattle.aud_parts.specs.PartTaps.{part_taps, part_entries, servers_left, tap_with, IsPartOfEach};
+ghost use Rattle.aud_parts.specs.PartTaps.{part_taps, IsPartOfEach};
 ghost use Rattle.aud_parts.specs.Private.Kept.{entries_for, records_kept, tap_kept};
 ghost use Rattle.aud_parts.specs.Private.OwnRecords.{has};
 
@@ -40,26 +40,13 @@ pub fn part_taps(
     ensures taps { IfOk result (λ part. part ≡ part_taps pids.now came.now logs.now) }
     ensures part { IfOk result (IsPartOfEach pids.now came.now logs.now) }
 {
-    let left = left_taps(alloc, logs, pids, came)?;
-    let whole = Logs::build(alloc, logs.keys(), &left)?;
-    upgrade(alloc, &whole, Joins::TakeAndTakes)
-}
-
-/// What is left of the taps, in the versions that they have.
-fn left_taps(
-    alloc: Global,
-    logs: &Logs<'_>,
-    pids: &[Text],
-    came: &[u64],
-) -> Result<Taps, AllocError>
-    ensures { IfOk result (λ left. left ≡ map (tap_with (part_entries pids.now came.now logs.now))
-        (servers_left pids.now logs.now.taps)) }
-{
     let keys = logs.keys();
     let taps = logs.taps();
     let own = set_of(alloc, keys, pids)?;
     let audience = Audience::build(alloc, keys, &own, taps)?;
-    kept_taps(alloc, logs.stream(), &own, &audience, came, taps)
+    let left = kept_taps(alloc, logs.stream(), &own, &audience, came, taps)?;
+    let whole = Logs::build(alloc, keys, &left)?;
+    upgrade(alloc, &whole, Joins::TakeAndTakes)
 }
 
 /// What is left of each of the taps that are kept for these sessions and this audience.

@@ -1,8 +1,7 @@
 //! The taps of the stream and of the nodes, and what each tap was put on.
-ghost use Rattle.std.specs.Prelude.{◌≡◌, ◌++◌, ◌∷◌, [], ℕ, List, IfOk, IfSome, None, OnOk, Some, drop, map, slice_get};
+ghost use Rattle.std.specs.Prelude.{◌≡◌, ◌++◌, ◌∷◌, [], ℕ, List, IfOk, IfSome, None, OnOk, Some, map};
 ghost use Rattle.std.specs.List.{All};
-ghost use Rattle.std.specs.Option.{option_and_then, option_map};
-ghost use Rattle.aud_input.specs.LineRuns.{lines_of_runs};
+ghost use Rattle.std.specs.Option.{option_map};
 ghost use Rattle.aud_node.specs.Cluster.{node_recs};
 ghost use Rattle.aud_reader.specs.declared.line.Line.{Line};
 ghost use Rattle.aud_reader.specs.Bundle.{tap_named};
@@ -11,7 +10,7 @@ ghost use Rattle.aud_tap.specs.declared.records.Rec.TheVariants as rec;
 ghost use Rattle.aud_tap.specs.declared.records.TapKind.TheVariants as kind;
 ghost use Rattle.aud_tap.specs.declared.records.Version.{Version};
 ghost use Rattle.aud_parts.specs.ServersRead.{AreServers, header_for, kind_told};
-ghost use Rattle.aud_parts.specs.TapRuns.{MayBeRead, TapRuns, runs_lines};
+ghost use Rattle.aud_parts.specs.TapRuns.{MayBeRead, TapRuns};
 ghost use Rattle.aud_parts.specs.Private.ServerSteps.{AddsServer, IsHeaderOf, stream_recs};
 
 use crate::tap_index::first_refusal::{FirstRefusal, RefusedLine};

@@ -5,9 +5,8 @@ pub mod tap_lines;
 pub mod tap_reading;
 pub mod tap_runs;
 
-ghost use Rattle.std.specs.Prelude.{◌≡◌, ◌+◌, ◌^◌, ◌<◌, ◌++◌, ◌∷◌, [], List, ℕ, length, false, OnOk};
+ghost use Rattle.std.specs.Prelude.{◌≡◌, ◌+◌, ◌^◌, ◌<◌, ◌++◌, ◌∷◌, [], List, ℕ, length, OnOk};
 ghost use Rattle.std.specs.List.{All};
-ghost use Rattle.aud_reader.specs.Lines.{without_return};
 ghost use Rattle.aud_parts.specs.TapRuns.{MayBeRead};
 ghost use Rattle.aud_parts.specs.FileLines.{AreTapsOf, file_lines, front_refusal};
 ghost use Rattle.aud_parts.specs.IndexSoFar.{HasRead, IsBegun, IsCounted, KeepsPlaces, line_count, so_far, with_line};
@@ -50,18 +49,6 @@ impl Begun {
         self.size = self.size.saturating_add(bytes.len() as u64);
         let room = FRONT.saturating_sub(self.front.len());
         self.front.extend_from_slice(first_bytes(room, bytes))
-    }
-
-    /// Its length without the carriage return at its end.
-    fn measured(&self) -> u64
-        ensures { (from : ℕ) (text : List ℕ) → IsBegun self.now from text
-            → result ≡ length (without_return text) }
-    {
-        if self.returns {
-            self.size.saturating_sub(1)
-        } else {
-            self.size
-        }
     }
 
     /// The next line begins here.
@@ -160,7 +147,9 @@ impl TapIndex {
             → OnOk result (Looks self.old self.new
             (with_line (so_far self.old) (placed_at line text))) }
     {
-        let measured = self.begun.measured();
+        // (its length without the carriage return at its end)
+        let ending = u64::from(self.begun.returns);
+        let measured = self.begun.size.saturating_sub(ending);
         if self.fault.is_some() {
             return Ok(());
         }

@@ -1,10 +1,9 @@
 //! What a client's tap tells of its sessions, and which events came to it.
-ghost use Rattle.std.specs.Prelude.{◌≡◌, ◌++◌, ℕ, IfOk, OnOk, Some, flat_map};
-ghost use Rattle.std.specs.List.{filter_map, list_any};
+ghost use Rattle.std.specs.Prelude.{◌≡◌, ◌++◌, ℕ, IfOk, OnOk, Some};
 ghost use Rattle.std.specs.List.Sorted.{IsStrictlyIncreasing};
-ghost use Rattle.std.specs.Option.{option_copied, option_to_list};
+ghost use Rattle.std.specs.Option.{option_to_list};
 ghost use Rattle.aud_maker.specs.Sessions.{reply_pids, stay_pid};
-ghost use Rattle.aud_parts.specs.ClientFacts.{frame_positions, has_come_at, has_frame_at, is_one_of};
+ghost use Rattle.aud_parts.specs.ClientFacts.{frame_positions, has_come_at, is_one_of};
 ghost use Rattle.aud_parts.specs.ClientFacts.{TellEvents};
 
 use aud_client::{Stay, read_transcript};
@@ -38,20 +37,17 @@ pub fn client_facts(
     ensures ascending { IfOk result (λ facts. IsStrictlyIncreasing facts.came.items) }
 {
     let transcript = read_transcript(alloc, recs, stream)?;
-    let pids = pids_in(alloc, &transcript.stays)?;
-    let came = came_in(alloc, &transcript.stays)?;
-    Ok(ClientFacts { pids, came })
-}
-
-/// The pids that the replies of these stays name.
-fn pids_in(alloc: Global, stays: &[Stay<'_>]) -> Result<Texts, AllocError>
-    ensures { IfOk result (λ pids. pids ≡ filter_map stay_pid stays.now) }
-{
-    let mut pids = Vec::new(alloc);
+    let stays = transcript.stays.as_slice();
+    let mut named = Vec::new(alloc);
+    let mut came = Vec::new(alloc);
     for stay in stays {
-        push_pid(&mut pids, stay)?;
+        push_pid(&mut named, stay)?;
+        push_positions(&mut came, stay)?;
     }
-    Ok(Texts::new(pids))
+    came.sort_unstable();
+    came.dedup();
+    let pids = Texts::new(named);
+    Ok(ClientFacts { pids, came })
 }
 
 /// Adds the session that the stay's reply names, if it names one.
@@ -67,21 +63,6 @@ fn push_pid(pids: &mut Vec<Text>, stay: &Stay<'_>) -> Result<(), AllocError>
     };
     pids.push(pid.share()?)?;
     Ok(())
-}
-
-/// The positions of the frames of these stays: ascending, each once.
-fn came_in(alloc: Global, stays: &[Stay<'_>]) -> Result<Vec<u64>, AllocError>
-    ensures came { IfOk result (λ came. (position : ℕ)
-        → is_one_of came.items position ≡ list_any (has_frame_at position) stays.now) }
-    ensures ascending { IfOk result (λ came. IsStrictlyIncreasing came.items) }
-{
-    let mut came = Vec::new(alloc);
-    for stay in stays {
-        push_positions(&mut came, stay)?;
-    }
-    came.sort_unstable();
-    came.dedup();
-    Ok(came)
 }
 
 /// Adds the positions of the stay's frames.

@@ -1,7 +1,5 @@
 //! For whom entries of the stream can be among the sessions of a part.
-ghost use Rattle.std.specs.Prelude.{◌≡◌, ◌||◌, ℕ, List, Some, IfOk, OnOk};
-ghost use Rattle.std.specs.List.{list_any};
-ghost use Rattle.aud_node.specs.Cluster.{node_recs};
+ghost use Rattle.std.specs.Prelude.{◌≡◌, ◌||◌, ℕ, List, IfOk, OnOk};
 ghost use Rattle.aud_parts.specs.MadeOther.{any_record};
 ghost use Rattle.aud_parts.specs.Part.{opens_nsp, grants};
 ghost use Rattle.aud_parts.specs.Private.OwnRecords.{has, is_for, passes_own};
@@ -37,31 +35,14 @@ impl Audience {
             rooms: HashSet::with_hasher(alloc, keys),
         };
         for tap in taps {
-            audience.note_tap(own, tap)?;
+            let Records::Node(recs) = &tap.records else {
+                continue;
+            };
+            for number in 0..recs.len() {
+                audience.note_own(own, &recs[number])?;
+            }
         }
         Ok(audience)
-    }
-
-    /// Adds what records of the tap tell of these sessions, if it is a node's.
-    fn note_tap(&mut self, own: &TextSet, tap: &Tap) -> Result<(), AllocError>
-        ensures namespaces { OnOk result ((q : List ℕ) → has self.new.namespaces q
-            ≡ (has self.old.namespaces q
-            || list_any (passes_own (has own.now) (opens_nsp q))
-            (node_recs (Some tap.now.records)))) }
-        ensures rooms { OnOk result ((q : List ℕ) → has self.new.rooms q
-            ≡ (has self.old.rooms q
-            || list_any (passes_own (has own.now) (grants q)) (node_recs (Some tap.now.records)))) }
-    {
-        match &tap.records {
-            Records::Stream(_) => Ok(()),
-            Records::Node(recs) => {
-                for number in 0..recs.len() {
-                    self.note_own(own, &recs[number])?;
-                }
-                Ok(())
-            }
-            Records::Client(_) => Ok(()),
-        }
     }
 
     /// Adds the namespace in which the record opens a session, and the room that it grants, if it names one of these

@@ -1,5 +1,5 @@
 //! From which lines of the recording the lines of a part's taps come.
-ghost use Rattle.std.specs.Prelude.{◌≡◌, ◌+◌, ◌++◌, [], List, ℕ, suc, IfOk, OnOk, length, map, replicate, slice_index, get_or, option_map};
+ghost use Rattle.std.specs.Prelude.{◌≡◌, ◌+◌, ◌++◌, [], List, ℕ, suc, IfOk, OnOk, length, map, slice_index, get_or, option_map};
 ghost use Rattle.aud_base.specs.Lists.{numbers_from};
 ghost use Rattle.aud_base.specs.OneForEach.{OneForEach};
 ghost use Rattle.aud_tap.specs.declared.records.StreamRec.{StreamRec};
@@ -62,19 +62,11 @@ pub fn record_count(records: &Records) -> usize
     }
 }
 
-/// Adds so many lines that aren't known: 0 for each.
-fn push_unknown(runs: &mut LineRuns, count: usize) -> Result<(), AllocError>
-    ensures { OnOk result (lines_of_runs runs.new ≡ lines_of_runs runs.old ++ replicate count 0) }
-{
-    for _number in 0..count {
-        runs.push(0)?;
-    }
-    Ok(())
-}
-
-/// Adds so many of these lines, from the second on.
+/// Adds so many of these lines, from the second on; 0 for each that isn't there.
 fn push_next(runs: &mut LineRuns, lines: &[u64], count: usize) -> Result<(), AllocError>
-    ensures { OnOk result (lines_of_runs runs.new ≡ lines_of_runs runs.old
+    ensures count { OnOk result (length (lines_of_runs runs.new)
+        ≡ length (lines_of_runs runs.old) + count) }
+    ensures lines { OnOk result (lines_of_runs runs.new ≡ lines_of_runs runs.old
         ++ map (slice_index lines.now) (map suc (numbers_from 0 count))) }
 {
     for number in 0..count {
@@ -106,7 +98,7 @@ fn push_log(
             found += 1;
         }
     }
-    push_unknown(runs, part.len().saturating_sub(found))
+    push_next(runs, &[], part.len().saturating_sub(found))
 }
 
 /// Adds the lines that the part's records come from, where these are the whole's records and the lines of their tap.
@@ -160,7 +152,7 @@ fn tap_lines(
     let mut runs = LineRuns::new(Vec::new(alloc));
     let Some(place) = place_named(taps, &part.name) else {
         runs.push(0)?;
-        push_unknown(&mut runs, record_count(&part.records))?;
+        push_next(&mut runs, &[], record_count(&part.records))?;
         return Ok(runs);
     };
     let own = lines_at(alloc, lines, place)?;

@@ -1,11 +1,10 @@
 //! Whether a plan keeps together what has to stay together.
-ghost use Rattle.std.specs.Prelude.{◌≡◌, ◌<◌, ◌↔◌, IsTrue, All, Some, true};
+ghost use Rattle.std.specs.Prelude.{◌≡◌, Some, true};
 ghost use Rattle.std.specs.List.{list_all};
-ghost use Rattle.aud_base.specs.OneForEach.{OneForEach};
 ghost use Rattle.aud_tap.specs.declared.taps.Tap.{Tap};
 ghost use Rattle.aud_node.specs.Cluster.{node_recs};
 ghost use Rattle.aud_parts.specs.Plan.{client_pids, has_its_part, is_in};
-ghost use Rattle.aud_parts.specs.Plan.{HasRoom, IsClientIn, IsClosed, StaysWhole};
+ghost use Rattle.aud_parts.specs.Plan.{HasRoom, IsClosed, StaysWhole};
 
 use crate::clients::measured::MeasuredClient;
 use crate::plan::Plan;
@@ -14,59 +13,38 @@ use crate::plan::units::is_started;
 use aud_tap::{NodeRecs, Records, Tap, Text};
 
 /// Whether each session has one of the parts, each client's tap has that of all its sessions, and one part has all
-/// sessions of each log that doesn't begin with a `start`.
-pub(crate) fn is_closed(taps: &[Tap], clients: &[MeasuredClient], plan: &Plan) -> bool
-    ensures { result ≡ true → IsClosed taps.now clients.now plan.now }
+/// sessions of each log that doesn't begin with a `start`; and no part has more sessions, or more clients' taps, than a
+/// bundle may have.
+pub(crate) fn is_sound(taps: &[Tap], clients: &[MeasuredClient], plan: &Plan) -> bool
+    ensures closed { result ≡ true → IsClosed taps.now clients.now plan.now }
+    ensures room { result ≡ true → HasRoom plan.now }
 {
     if plan.parts.len() != plan.sessions.len() {
         return false;
     }
-    if !are_below(&plan.parts, plan.weights.len()) {
+    for own in &plan.parts {
+        if *own >= plan.weights.len() {
+            return false;
+        }
+    }
+    if plan.clients.len() != clients.len() {
         return false;
     }
-    if !are_clients_in(clients, plan) {
-        return false;
+    for (number, client) in clients.iter().enumerate() {
+        if !is_client_in(client, plan, plan.clients[number]) {
+            return false;
+        }
     }
     for tap in taps {
         if !stays_whole(tap, plan) {
             return false;
         }
     }
-    true
-}
-
-/// Whether no part has more sessions, or more clients' taps, than a bundle may have.
-pub(crate) fn has_room(plan: &Plan) -> bool
-    ensures { result ≡ true → HasRoom plan.now }
-{
     for part in 0..plan.weights.len() {
         if plan.session_count(part) > MAX_SESSIONS {
             return false;
         }
         if plan.client_count(part) > MAX_CLIENT_TAPS {
-            return false;
-        }
-    }
-    true
-}
-
-/// Whether all the parts are less than their count.
-fn are_below(parts: &[usize], count: usize) -> bool
-    ensures { IsTrue result ↔ All (λ part. part < count) parts.now }
-{
-    parts.iter().all(|part| *part < count)
-}
-
-/// Whether each client's tap has the part of all its sessions.
-fn are_clients_in(clients: &[MeasuredClient], plan: &Plan) -> bool
-    ensures { result ≡ true
-        → OneForEach (IsClientIn plan.now) clients.now plan.now.clients.items }
-{
-    if plan.clients.len() != clients.len() {
-        return false;
-    }
-    for (number, client) in clients.iter().enumerate() {
-        if !is_client_in(client, plan, plan.clients[number]) {
             return false;
         }
     }

@@ -1,22 +1,12 @@
 //! Numbers in groups.
-use aud_base::numbers_to;
-use std::alloc::{AllocError, Global};
-
 /// Numbers from 0 on, in groups. A group is known by the least of its numbers.
 #[derive(Drop)]
 pub(crate) struct Groups {
     /// Of each number one of its group that is nearer to the least, which has itself.
-    nearer: Vec<usize>,
+    pub(crate) nearer: Vec<usize>,
 }
 
 impl Groups {
-    /// So many numbers, each a group of its own.
-    pub(crate) fn new(alloc: Global, count: usize) -> Result<Groups, AllocError> {
-        Ok(Groups {
-            nearer: numbers_to(alloc, count)?,
-        })
-    }
-
     /// The least number of this one's group. Every second number on the way there is brought nearer to it.
     pub(crate) fn least(&mut self, number: usize) -> usize {
         let mut here = number;

@@ -5,7 +5,7 @@ use crate::plan::fault::PlanFault;
 use crate::plan::load::Load;
 use crate::plan::sessions::Sessions;
 use crate::plan::units::Unit;
-use std::alloc::{AllocError, Global};
+use std::alloc::Global;
 use std::cmp::Reverse;
 
 /// Puts the units into at most so many parts, the heaviest unit first, each into the lightest part that has room for it:
@@ -41,7 +41,8 @@ pub(crate) fn place_units(
     Ok(weights)
 }
 
-/// The unit goes to the lightest part that has room for it; of those that are as light to the first.
+/// The unit goes to the lightest part that has room for it; of those that are as light to the first. Where none has room,
+/// the fault tells the limit that the unit passes alone, or else in the first part.
 fn place(
     alloc: Global,
     sessions: &Sessions,
@@ -59,29 +60,22 @@ fn place(
             least = load.weight;
         }
     }
-    let Some(part) = lightest else {
-        return Err(no_room(alloc, sessions, loads, unit));
-    };
-    if part < loads.len() {
-        loads[part].add(&unit.load)?;
-        unit.part = part;
+    if let Some(part) = lightest {
+        if part < loads.len() {
+            loads[part].add(&unit.load)?;
+            unit.part = part;
+        }
+        return Ok(());
     }
-    Ok(())
-}
-
-/// Why no part has room for the unit: the limit that it passes alone, or else in the first part.
-fn no_room(alloc: Global, sessions: &Sessions, loads: &[Load], unit: &Unit) -> PlanFault {
-    let alone = unit.load.passed_with(&Load::new(alloc));
-    let beside = match loads.first() {
-        Some(load) => load.passed_with(&unit.load),
-        None => None,
+    let first = sessions.copy_of(unit.first)?;
+    if let Some(limit) = unit.load.passed_with(&Load::new(alloc)) {
+        return Err(PlanFault::OneUnit { first, limit });
+    }
+    let Some(load) = loads.first() else {
+        return Err(PlanFault::Unclosed);
     };
-    let Ok(first) = sessions.copy_of(unit.first) else {
-        return PlanFault::Memory;
-    };
-    match (alone, beside) {
-        (Some(limit), _) => PlanFault::OneUnit { first, limit },
-        (None, Some(limit)) => PlanFault::NoRoom { first, limit },
-        (None, None) => PlanFault::Unclosed,
+    match load.passed_with(&unit.load) {
+        Some(limit) => Err(PlanFault::NoRoom { first, limit }),
+        None => Err(PlanFault::Unclosed),
     }
 }

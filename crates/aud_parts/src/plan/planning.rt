@@ -5,14 +5,14 @@ ghost use Rattle.aud_parts.specs.Plan.{all_mentions, HasRoom, IsClosed};
 
 use crate::clients::measured::MeasuredClient;
 use crate::plan::Plan;
-use crate::plan::closed::{has_room, is_closed};
+use crate::plan::closed::is_sound;
 use crate::plan::fault::PlanFault;
 use crate::plan::placing::place_units;
 use crate::plan::sessions::Sessions;
-use crate::plan::units::{Units, units_of};
+use crate::plan::units::units_of;
 use aud_node::Logs;
 use aud_tap::Tap;
-use std::alloc::{AllocError, Global};
+use std::alloc::Global;
 
 /// Plans at most so many parts, and one at least, of a recording with these logs of the stream and of the nodes, and
 /// with clients' taps that tell this. Sessions that have to stay together are: those that one client's tap names, and
@@ -35,19 +35,20 @@ pub fn plan_parts(
     ensures some { IfOk result (λ plan. 1 ≤ vec_len plan.weights) }
     ensures few { IfOk result (λ plan. vec_len plan.weights ≤ max most 1) }
 {
+    let taps = logs.taps();
     let sessions = Sessions::of(alloc, logs, clients)?;
     let Placed {
         parts,
         clients_in,
         weights,
-    } = place_sessions(alloc, logs.taps(), clients, &sessions, most)?;
+    } = place_sessions(alloc, taps, clients, &sessions, most)?;
     let plan = Plan {
         sessions,
         parts,
         clients: clients_in,
         weights,
     };
-    if is_closed(logs.taps(), clients, &plan) && has_room(&plan) {
+    if is_sound(taps, clients, &plan) {
         Ok(plan)
     } else {
         Err(PlanFault::Unclosed)
@@ -65,7 +66,7 @@ struct Placed {
     weights: Vec<u64>,
 }
 
-/// The sessions in at most so many parts, by their units.
+/// The sessions in at most so many parts, by their units, and the clients' taps with them.
 fn place_sessions(
     alloc: Global,
     taps: &[Tap],
@@ -78,17 +79,6 @@ fn place_sessions(
 {
     let mut units = units_of(alloc, taps, clients, sessions)?;
     let weights = place_units(alloc, sessions, &mut units.all, most)?;
-    let parts = parts_of_sessions(alloc, units)?;
-    let clients_in = parts_of_clients(alloc, clients, sessions, &parts)?;
-    Ok(Placed {
-        parts,
-        clients_in,
-        weights,
-    })
-}
-
-/// Of each session, the part of its unit.
-fn parts_of_sessions(alloc: Global, units: Units) -> Result<Vec<usize>, AllocError> {
     let mut parts = Vec::with_capacity(alloc, units.of_sessions.len())?;
     for number in &units.of_sessions {
         let part = match units.all.get(*number) {
@@ -97,24 +87,18 @@ fn parts_of_sessions(alloc: Global, units: Units) -> Result<Vec<usize>, AllocErr
         };
         parts.push(part)?;
     }
-    Ok(parts)
-}
-
-/// Of each client's tap, the part of its sessions, where these are those of all sessions.
-fn parts_of_clients(
-    alloc: Global,
-    clients: &[MeasuredClient],
-    sessions: &Sessions,
-    parts: &[usize],
-) -> Result<Vec<Option<usize>>, AllocError> {
-    let mut of_clients = Vec::with_capacity(alloc, clients.len())?;
+    let mut clients_in = Vec::with_capacity(alloc, clients.len())?;
     for client in clients {
         let first = client.facts.pids.as_slice().first();
         let part = match sessions.number_named(first) {
             Some(session) => parts.get(session).copied(),
             None => None,
         };
-        of_clients.push(part)?;
+        clients_in.push(part)?;
     }
-    Ok(of_clients)
+    Ok(Placed {
+        parts,
+        clients_in,
+        weights,
+    })
 }

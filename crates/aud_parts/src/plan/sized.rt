@@ -1,5 +1,5 @@
 //! A plan whose parts have at most so many bytes.
-ghost use Rattle.std.specs.Prelude.{◌≡◌, IfOk};
+ghost use Rattle.std.specs.Prelude.{IfOk};
 ghost use Rattle.aud_parts.specs.Plan.{IsClosed};
 
 use crate::clients::measured::MeasuredClient;
@@ -32,15 +32,6 @@ pub enum SizedFault {
     NotFound,
 }
 
-impl From<ReadFault> for SizedFault {
-    fn from(fault: ReadFault) -> SizedFault {
-        match fault {
-            ReadFault::Memory => SizedFault::Plan(PlanFault::Memory),
-            ReadFault::Input(_, _) => SizedFault::LineTooLong,
-        }
-    }
-}
-
 /// A part that has so many bytes.
 #[derive(Drop)]
 struct Measured {
@@ -56,7 +47,7 @@ fn larger_part(
     clients: &[MeasuredClient],
     plan: &Plan,
     most: u64,
-) -> Result<Option<Measured>, ReadFault> {
+) -> Result<Option<Measured>, SizedFault> {
     let mut heaviest = 0usize;
     let mut weight = 0u64;
     for (part, own) in plan.weights.iter().enumerate() {
@@ -74,21 +65,17 @@ fn larger_part(
         } else {
             number
         };
-        let bytes = planned.bytes(part, &planned.servers(part, &[])?);
+        let servers = match planned.servers(part, &[]) {
+            Ok(servers) => servers,
+            Err(ReadFault::Memory) => return Err(SizedFault::Plan(PlanFault::Memory)),
+            Err(ReadFault::Input(_, _)) => return Err(SizedFault::LineTooLong),
+        };
+        let bytes = planned.bytes(part, &servers);
         if bytes > most {
             return Ok(Some(Measured { part, bytes }));
         }
     }
     Ok(None)
-}
-
-/// The number of parts to try after this one, with which a part has so many bytes: in proportion to what is too much,
-/// and by an eighth more at least.
-fn next_number(parts: usize, bytes: u64, most: u64) -> usize {
-    let number = parts as u64;
-    let in_proportion = number.saturating_mul(bytes) / most.max(1);
-    let more = number.saturating_add(number / 8).saturating_add(1);
-    in_proportion.max(more) as usize
 }
 
 /// Why a part can't be smaller.
@@ -118,7 +105,7 @@ pub fn plan_within(
     }
     let mut parts = (bytes / most.max(1)).saturating_add(1) as usize;
     for _try in 0..TRIES {
-        match plan_parts(alloc, logs, clients, parts) {
+        let bytes = match plan_parts(alloc, logs, clients, parts) {
             Ok(plan) => {
                 let Some(larger) = larger_part(alloc, logs, clients, &plan, most)? else {
                     return Ok(plan);
@@ -126,16 +113,21 @@ pub fn plan_within(
                 if plan.weights.len() < parts || plan.session_count(larger.part) < 2 {
                     return Err(too_large(&plan, larger));
                 }
-                parts = next_number(parts, larger.bytes, most);
+                larger.bytes
             }
             Err(
                 PlanFault::NoRoom {
                     first: _first,
                     limit: _limit,
                 },
-            ) => parts = next_number(parts, 0, most),
+            ) => 0,
             Err(fault) => return Err(SizedFault::Plan(fault)),
-        }
+        };
+        // (in proportion to what is too much, and by an eighth more at least)
+        let number = parts as u64;
+        let in_proportion = number.saturating_mul(bytes) / most.max(1);
+        let more = number.saturating_add(number / 8).saturating_add(1);
+        parts = in_proportion.max(more) as usize;
     }
     Err(SizedFault::NotFound)
 }

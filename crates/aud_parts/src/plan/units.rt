@@ -6,6 +6,7 @@ use crate::clients::measured::MeasuredClient;
 use crate::plan::groups::Groups;
 use crate::plan::load::Load;
 use crate::plan::sessions::Sessions;
+use aud_base::numbers_to;
 use aud_tap::{NodeRec, NodeRecs, Records, Tap};
 use std::alloc::{AllocError, Global};
 
@@ -41,7 +42,9 @@ pub(crate) fn units_of(
     clients: &[MeasuredClient],
     sessions: &Sessions,
 ) -> Result<Units, AllocError> {
-    let mut groups = Groups::new(alloc, sessions.len())?;
+    let mut groups = Groups {
+        nearer: numbers_to(alloc, sessions.len())?,
+    };
     for tap in taps {
         if let Records::Node(recs) = &tap.records {
             if !is_started(recs) {

@@ -1,5 +1,5 @@
 //! A tap, read by itself.
-ghost use Rattle.std.specs.Prelude.{◌≡◌, ◌++◌, ◌∷◌, [], ℕ, List, map, IfOk, OnOk, Some};
+ghost use Rattle.std.specs.Prelude.{◌≡◌, ◌++◌, [], ℕ, List, map, IfOk, OnOk, Some};
 ghost use Rattle.std.specs.List.{AllByRecursion};
 ghost use Rattle.aud_input.specs.LineRuns.{lines_of_runs};
 ghost use Rattle.aud_reader.specs.declared.line.Line.{Line};
@@ -41,18 +41,6 @@ struct TapReading {
     lines: LineRuns,
 }
 
-/// Reads the next line. The reader keeps a refusal until it ends.
-fn read_line(reader: &mut BundleReader, line: &Line) -> Result<(), RunFault>
-    ensures { (more : List Line) → OnOk result
-        (taps_to_come reader.new more ≡ taps_to_come reader.old (line.now ∷ more)) }
-{
-    match reader.line(&line.lent()) {
-        Ok(()) => Ok(()),
-        Err(ReadFault::Input(_, _)) => Ok(()),
-        Err(ReadFault::Memory) => Err(RunFault::Memory),
-    }
-}
-
 impl TapReading {
     /// A tap before its first line.
     fn new(alloc: Global, keys: RandomState) -> TapReading
@@ -79,7 +67,11 @@ impl TapReading {
             let bytes = (line.bytes.as_slice().len() as u64).saturating_add(1);
             self.first = if self.bytes == 0 { bytes } else { self.first };
             self.bytes = self.bytes.saturating_add(bytes);
-            read_line(&mut self.reader, line)?;
+            // (the reader keeps a refusal until it ends)
+            match self.reader.line(&line.lent()) {
+                Err(ReadFault::Memory) => return Err(RunFault::Memory),
+                Ok(()) | Err(ReadFault::Input(_, _)) => {}
+            }
         }
         Ok(())
     }

@@ -6,7 +6,7 @@ ghost use Rattle.aud_base.specs.Places.{noted as place_noted, places_of};
 ghost use Rattle.aud_tap.specs.TapName.{is_tap_name};
 ghost use Rattle.aud_parts.specs.TapRuns as spec;
 ghost use Rattle.aud_parts.specs.PartLines.{is_server_at};
-ghost use Rattle.aud_parts.specs.IndexSoFar.{KeepsPlaces, Notes, changed, none_noted, noted_in, place_in, with_run};
+ghost use Rattle.aud_parts.specs.IndexSoFar.{KeepsPlaces, Notes, changed, none_noted, noted_in, with_run};
 
 use aud_base::{Places, RunFault};
 use aud_input::LineRuns;
@@ -164,17 +164,6 @@ impl RunsByTap {
         }
     }
 
-    /// The place of the tap of this name.
-    fn place(&self, name: &str) -> Option<usize>
-        ensures { KeepsPlaces self.now → result ≡ place_in self.now.taps.items name.now }
-    {
-        if self.is_last(name) {
-            Some(self.last)
-        } else {
-            self.places.of(name).first().copied()
-        }
-    }
-
     /// Puts a tap of one line at the end.
     fn open(&mut self, name: &str, line: Run) -> Result<(), AllocError>
         requires { IsTrue (is_tap_name name.now) }
@@ -218,7 +207,11 @@ impl RunsByTap {
         requires { IsTrue (is_tap_name name.now) }
         ensures { KeepsPlaces self.old → OnOk result (Notes self.old self.new name.now line) }
     {
-        match self.place(name) {
+        if self.is_last(name) {
+            let place = self.last;
+            return self.push(place, line);
+        }
+        match self.places.of(name).first().copied() {
             Some(place) => self.push(place, line),
             None => self.open(name, line),
         }

@@ -12,8 +12,8 @@ answer-requires c =
     let parts = map (λ part. part.items) c.deref.result.now in
     let parts_are = ap (map (λ part. part.items)) c.deref.ensures.value ∙ c.in_ok-parts.ensures in
     let held = ap length c.deref.ensures.value in
-    let count : c.len.result ≡ length c.deref.result.now = omega (arith, c.len.ensures, held, c.in_ok-parts.parts.ok.0) in
-    let none = c.in_ok-slots.ensures ∙ ap (λ n. replicate n None) count in
+    let count : c.loop-part._part ≡ length c.deref.result.now = omega (arith, c.len-count.ensures, held, c.in_ok-parts.parts.ok.0) in
+    let none = c.loop-part.invariant ∙ ap (λ n. replicate n None) count in
     let size = ap length c.deref-2.ensures.value ∙ slots-length l parts c.args.reports.now c.gather.new.slots.items parts_are (c.in_ok-gather.ensures.slots none) in
     ap (λ n. list_all (is_within n) c.as_slice.result.now) size ∙ ap (list_all (is_within l.parts)) c.as_slice.ensures ∙ c.requires
 
@@ -22,8 +22,8 @@ returns c =
     let parts = map (λ part. part.items) c.deref.result.now in
     let parts_are = ap (map (λ part. part.items)) c.deref.ensures.value ∙ c.in_ok-parts.ensures in
     let held = ap length c.deref.ensures.value in
-    let count : c.len.result ≡ length c.deref.result.now = omega (arith, c.len.ensures, held, c.in_ok-parts.parts.ok.0) in
-    let none = c.in_ok-slots.ensures ∙ ap (λ n. replicate n None) count in
+    let count : c.loop-part._part ≡ length c.deref.result.now = omega (arith, c.len-count.ensures, held, c.in_ok-parts.parts.ok.0) in
+    let none = c.loop-part.invariant ∙ ap (λ n. replicate n None) count in
     let slots = c.deref-2.ensures.value ∙ c.in_ok-gather.ensures.slots none in
     let missing = c.in_ok-gather.ensures.faults none c.new-faults.ensures.items ∙ ap (λ slots. report_faults parts c.args.reports.now ++ missing_in slots) (sym c.deref-2.ensures.value) in
     IfOk-weaker c.answer.result _ _

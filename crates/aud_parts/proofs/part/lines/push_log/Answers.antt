@@ -1,6 +1,7 @@
-use Rattle.std.proofs.Common.{◌≡◌, ◌+◌, ◌-◌, ◌++◌, ◌∷◌, [], ap, refl, replicate, sym, length, map, slice_get, slice_index, suc, true, false, ◌∙◌, arith, length-append, Some}
+use Rattle.std.proofs.Common.{◌≡◌, ◌+◌, ◌-◌, ◌++◌, ◌∷◌, [], List, ℕ, ap, refl, sym, length, map, slice_get, slice_index, suc, true, false, ◌∙◌, arith, length-append, Some}
 use Rattle.std.proofs.lemmas.Option.{slice_get_read}
 use Rattle.std.proofs.lemmas.Result.{on_ok_weaker}
+use Rattle.aud_base.specs.Lists.{numbers_from}
 use Rattle.aud_input.specs.LineRuns.{lines_of_runs}
 use Rattle.aud_parts.specs.Private.FoundRecords.{comes_next, found}
 use Rattle.aud_parts.specs.ServerLines.{places_left}
@@ -52,10 +53,12 @@ returns-clause-lines c = λ pids stream is.
     let line = slice_index c.args.lines.now in
     let start = lines_of_runs c.args.runs.now in
     let now = lines_of_runs c.loop-place.runs in
-    let new = lines_of_runs c.push_unknown.new.runs in
+    let new = lines_of_runs c.push_next.new.runs in
     let places = places_left pids stream recs in
     let none : c.saturating_sub.result ≡ length part - c.loop-place.found = c.saturating_sub.ensures ∙ ap (λ n. n - c.loop-place.found) c.len.ensures in
-    on_ok_weaker {P = new ≡ now ++ replicate c.saturating_sub.result 0} {Q = new ≡ start ++ map line (map suc places)} c.push_unknown.result
-    (λ more. push-all line recs part c.loop-place.place c.loop-place.found start now new places (omega (arith, c.loop-place-test.false, c.len-place-end.ensures))
-    c.loop-place.invariant.lines c.loop-place.invariant.count (found-left pids stream recs part is) (count-left pids stream recs part is) (more ∙ ap (λ k. now ++ replicate k 0) none))
-    c.push_unknown.ensures
+    let others : List ℕ → ℕ → ℕ = λ ls. slice_index ls in
+    let added = λ (k : ℕ). now ++ map (others []) (map suc (numbers_from 0 k)) in
+    on_ok_weaker {P = new ≡ added c.saturating_sub.result} {Q = new ≡ start ++ map line (map suc places)} c.push_next.result
+    (λ more. push-all line recs part c.loop-place.place c.loop-place.found start now new places (others []) (omega (arith, c.loop-place-test.false, c.len-place-end.ensures))
+    c.loop-place.invariant.lines c.loop-place.invariant.count (found-left pids stream recs part is) (count-left pids stream recs part is) (more ∙ ap added none))
+    c.push_next.ensures.lines
