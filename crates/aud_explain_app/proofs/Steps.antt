@@ -1,22 +1,18 @@
 -- What loops do, one step more.
-use Rattle.std.proofs.Common.{◌≡◌, ◌<◌, ◌≤◌, ◌+◌, ◌-◌, ◌++◌, ◌&&◌, ◌||◌, ℕ, zero, suc, Bool, true, false, not, cond, if◌then◌else◌, List, [], ◌∷◌, length, take, drop, get_or, flat_map, map, Option, Some, option_to_list, slice_get, string_bytes, bytes_eq, eqb, refl, sym, ap, subst, ◌∙◌, append_assoc, append-nil, arith}
+use Rattle.std.proofs.Common.{◌≡◌, ◌<◌, ◌≤◌, ◌+◌, ◌-◌, ◌++◌, ℕ, zero, suc, Bool, true, false, if◌then◌else◌, List, [], ◌∷◌, length, take, drop, get_or, flat_map, map, Option, Some, option_to_list, slice_get, string_bytes, refl, sym, ap, subst, ◌∙◌, append_assoc, append-nil, arith}
 use Rattle.std.specs.List.{AllZip}
-use Rattle.std.proofs.lemmas.List.Folds.{list_any-append}
 use Rattle.std.proofs.lemmas.List.{drop-drop, length-take-le, map-append, take-append-drop, take_more, take_rest}
-use Rattle.std.proofs.lemmas.Bool.{eqb-true}
 use Rattle.std.proofs.lemmas.List.Elements.{All-append, All-cons, All-nil}
 use Rattle.std.proofs.lemmas.Grind.{flat_map-append}
-use Rattle.aud_base.specs.declared.places.Places.{Places}
-use Rattle.aud_base.specs.Places.{is_place, noted, places_of, places_where}
+use Rattle.aud_base.specs.Places.{noted, places_where}
 use Rattle.aud_base.proofs.NotedPlaces.{noted-at}
 use Rattle.aud_node.specs.Cluster.{Cluster}
-use Rattle.aud_node.specs.Lists.{is_empty}
 use Rattle.aud_findings.proofs.Read.{zip_append}
 use Rattle.aud_explain_app.specs.declared.written.Form.{Form}
 use Rattle.aud_input.specs.declared.input_file.InputFile.{InputFile}
 use Rattle.aud_input.specs.TapLines.{TapLines}
 use Rattle.aud_verdict.specs.declared.verdict.SessionVerdict.{SessionVerdict}
-use Rattle.aud_explain_app.specs.Strangers.{AreAdded, AreKnown, IsJudged, asked_in_vain, has_pid, pid_in_vain, pids_of, with_pids}
+use Rattle.aud_explain_app.specs.Strangers.{AreAdded, IsJudged, asked_in_vain, has_pid, pid_in_vain, pids_of, with_pids}
 use Rattle.aud_explain_app.specs.Alike.{Telling}
 use Rattle.aud_explain_app.specs.Explained.{IsExplained}
 use Rattle.aud_explain_app.specs.CausesTold.{AreCausesTold}
@@ -76,41 +72,6 @@ added_item c whole xs i x a b d h was more =
     of : Recovery → List Text
     of r = option_to_list (pid_in_vain c r)
 
--- ---- what is known
-
--- a place is noted: then there is one
-noted-empty : (passes : Bool) (xs : List ℕ) → is_empty (noted 0 passes xs) ≡ not passes && is_empty xs
-noted-empty false xs = refl
-noted-empty true [] = refl
-noted-empty true (x ∷ xs) = go (is_place 0 (slice_get (x ∷ xs) (length (x ∷ xs) - 1)))
-  where
-    go : (b : Bool) → is_empty (cond b (x ∷ xs) ((x ∷ xs) ++ 0 ∷ [])) ≡ false
-    go true = refl
-    go false = refl
-
-both-not : (a b : Bool) → not b && not a ≡ not (a || (b || false))
-both-not true true = refl
-both-not true false = refl
-both-not false true = refl
-both-not false false = refl
-
--- one pid more is noted
-pub known-more : (old new : Places) (sessions : List SessionVerdict) (s : SessionVerdict) → AreKnown old sessions
-    → ((q : Text) → places_of new q ≡ noted 0 (bytes_eq s.pid q) (places_of old q)) → AreKnown new (sessions ++ s ∷ [])
-known-more old new sessions s was more = λ q.
-    ap is_empty (more q) ∙ noted-empty (bytes_eq s.pid q) (places_of old q) ∙ ap (λ b. not (bytes_eq s.pid q) && b) (was q)
-    ∙ both-not (has_pid (pids_of sessions) q) (bytes_eq s.pid q)
-    ∙ sym (ap not (ap (λ pids. has_pid pids q) (map-append (λ (v : SessionVerdict). v.pid) sessions (s ∷ [])) ∙ list_any-append (λ other. bytes_eq other q) (pids_of sessions) (s.pid ∷ [])))
-
--- a pid that stands at no place is none of these
-pub not_known : (known : Places) (sessions : List SessionVerdict) (pid : Text) → AreKnown known sessions → eqb (length (places_of known pid)) 0 ≡ true → has_pid (pids_of sessions) pid ≡ false
-not_known known sessions pid are none = go (places_of known pid) (has_pid (pids_of sessions) pid) none (are pid)
-  where
-    go : (places : List ℕ) (has : Bool) → eqb (length places) 0 ≡ true → is_empty places ≡ not has → has ≡ false
-    go [] true none is = is
-    go [] false none is = refl
-    go (x ∷ xs) has none is = let nothing : suc (length xs) ≡ 0 = eqb-true (suc (length xs)) 0 none in absurd (omega arith)
-
 -- the verdict on one more session was added
 pub added_one : (c : Cluster) (whole : Bool) (pid : Text) (s : SessionVerdict) (old new : List SessionVerdict) → IsJudged c whole s → s.pid ≡ pid → has_pid (pids_of old) pid ≡ false → new ≡ old ++ s ∷ []
     → AreAdded c whole (pid ∷ []) old new
@@ -123,12 +84,15 @@ added_one c whole pid s old new judged is unknown added =
           ∙ sym (ap (λ b. if b then pids_of old else pids_of old ++ pid ∷ []) unknown);
     }
 
--- the same in a loop
-pub known_item : (old new : Places) (xs : List SessionVerdict) (i : ℕ) (x : SessionVerdict) → i < length xs → x ≡ get_or xs i x → AreKnown old (take i xs)
-    → ((q : Text) → places_of new q ≡ noted 0 (bytes_eq x.pid q) (places_of old q)) → AreKnown new (take (i + 1) xs)
-known_item old new xs i x h is was more =
-    subst (λ ys. AreKnown new ys) (sym (take_more xs i x h))
-    (known-more old new (take i xs) (get_or xs i x) was (subst (λ y. (q : Text) → places_of new q ≡ noted 0 (bytes_eq y.pid q) (places_of old q)) is more))
+-- the pid has a verdict already: none is added
+pub added_none : (c : Cluster) (whole : Bool) (pid : Text) (old : List SessionVerdict) → has_pid (pids_of old) pid ≡ true → AreAdded c whole (pid ∷ []) old old
+added_none c whole pid old has =
+    record {
+      others = [];
+      are_judged = All-nil (IsJudged c whole);
+      are_added = sym (append-nil old);
+      are_asked = sym (ap (λ b. if b then pids_of old else pids_of old ++ pid ∷ []) has);
+    }
 
 -- ---- texts
 

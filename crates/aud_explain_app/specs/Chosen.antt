@@ -1,10 +1,11 @@
 -- The sessions that are shown.
-use Rattle.std.specs.Prelude.{ℕ, Bool, false, List, [], ◌∷◌, flat_map, length, Option, Some, None, slice_get, if◌then◌else◌}
+use Rattle.std.specs.Prelude.{◌≡◌, ℕ, Bool, false, List, [], ◌∷◌, flat_map, length, Option, Some, None, slice_get, if◌then◌else◌}
 use Rattle.std.specs.List.{filter}
 use Rattle.std.specs.Option.{option_and_then, option_map_or}
 use Rattle.std.specs.Str.{bytes_eq}
 use Rattle.aud_base.specs.FirstTexts.{with_texts}
-use Rattle.aud_base.specs.Places.{places_where}
+use Rattle.aud_base.specs.declared.places.Places.{Places}
+use Rattle.aud_base.specs.Places.{places_of, places_where}
 use Rattle.aud_node.specs.Cluster.{Cluster}
 use Rattle.aud_node.specs.Lists.{is_empty}
 use Rattle.aud_node.specs.Stream.{Text}
@@ -21,7 +22,11 @@ is_of pid session = bytes_eq session.pid pid
 abbrev pub numbers_of : List SessionVerdict → Text → List ℕ
 numbers_of sessions pid = places_where (λ k. option_map_or (is_of pid) (slice_get sessions k) false) (length sessions)
 
--- the first of them
+-- the index has the numbers of these verdicts by their pids
+abbrev pub IsIndex : Places → List SessionVerdict → Type 0
+IsIndex index sessions = (pid : Text) → places_of index pid ≡ numbers_of sessions pid
+
+-- the first of those with this pid
 abbrev pub session_of : List SessionVerdict → Text → Option SessionVerdict
 session_of sessions pid = option_and_then (slice_get sessions) (slice_get (numbers_of sessions pid) 0)
 

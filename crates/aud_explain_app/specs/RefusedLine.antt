@@ -59,9 +59,11 @@ refused_data names r help =
     (member (codes "line") (whole r.number)
     (member (codes "name") (string (code_text r.code)) no_members))))))
 
+abbrev pub json_data : List Text → Refusal → List ℕ → Data
+json_data names r help = object (member (codes "refused") (refused_data names r help) (member (codes "v") (whole 1) no_members))
+
 abbrev pub json_line : List Text → Refusal → List ℕ → List ℕ
-json_line names r help =
-    compact_text (object (member (codes "refused") (refused_data names r help) (member (codes "v") (whole 1) no_members))) ++ codes "\n"
+json_line names r help = compact_text (json_data names r help) ++ codes "\n"
 
 -- the line as the other modes name it, its place in its file where there are several, the help, and the place of the
 -- header that it names; or all of it in a line of JSON

@@ -1,11 +1,8 @@
 -- The sessions that clients asked for in vain and that no record names.
-use Rattle.std.specs.Prelude.{◌≡◌, not, Bool, List, [], ◌∷◌, ◌++◌, flat_map, map, Option, None, option_to_list, if◌then◌else◌}
+use Rattle.std.specs.Prelude.{◌≡◌, Bool, List, [], ◌∷◌, ◌++◌, flat_map, map, Option, None, option_to_list, if◌then◌else◌}
 use Rattle.std.specs.List.{All, list_any}
 use Rattle.std.specs.Str.{bytes_eq}
-use Rattle.aud_base.specs.declared.places.Places.{Places}
-use Rattle.aud_base.specs.Places.{places_of}
 use Rattle.aud_node.specs.Cluster.{Cluster}
-use Rattle.aud_node.specs.Lists.{is_empty}
 use Rattle.aud_node.specs.Stream.{Text}
 use Rattle.aud_session_facts.specs.declared.asked.Recovery.{Recovery}
 use Rattle.aud_verdict.specs.declared.verdict.SessionVerdict.{SessionVerdict}
@@ -46,7 +43,3 @@ pub record AreAdded (c : Cluster) (whole : Bool) (asked : List Text) (old new : 
   pub are_judged : All (IsJudged c whole) others
   pub are_added : new ≡ old ++ others
   pub are_asked : pids_of new ≡ with_pids (pids_of old) asked
-
--- the index has the pids of these verdicts, and no others
-abbrev pub AreKnown : Places → List SessionVerdict → Type 0
-AreKnown known sessions = (pid : Text) → is_empty (places_of known pid) ≡ not (has_pid (pids_of sessions) pid)

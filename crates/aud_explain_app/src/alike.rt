@@ -1,13 +1,11 @@
 //! Sessions with the same fault at the same record.
-ghost use Rattle.std.specs.Prelude.{◌≡◌, ◌++◌, IfOk, OnOk, filter, map, option_map, string_bytes};
+ghost use Rattle.std.specs.Prelude.{◌≡◌, ◌++◌, IfOk, OnOk, map, option_map, string_bytes};
 ghost use Rattle.std.specs.Option.{option_copied};
-ghost use Rattle.aud_base.specs.Places.{noted, places_of};
+ghost use Rattle.aud_base.specs.Places.{places_of};
 ghost use Rattle.aud_node.specs.Cluster.{Cluster};
-ghost use Rattle.aud_node.specs.OwnPlaces.{own_places};
 ghost use Rattle.aud_node.specs.Stream.{Text};
-ghost use Rattle.aud_client.specs.Replies.{is_this};
 ghost use Rattle.aud_findings.specs.Prepared.{IsPreparedOf};
-ghost use Rattle.aud_explain_app.specs.Alike.{alone, is_unordered, numbers_at, pid_of, pids_at, records_of, shared_records, tap_name, taps_of, telling_of, tellings, told_by, told_first, told_once};
+ghost use Rattle.aud_explain_app.specs.Alike.{alone, numbers_at, pids_at, records_of, shared_records, tap_name, taps_of, telling_of, tellings, told_by, told_first, told_once};
 ghost use Rattle.aud_explain_app.specs.Asked.{AreAsked};
 
 use crate::asked::Asked;
@@ -16,7 +14,6 @@ use aud_base::Places;
 use aud_cert::{Fault, fault_word};
 use aud_client::Recording;
 use aud_findings::{Prepared, unordered_of};
-use aud_session_facts::RecordPlace;
 use aud_tap::{Tap, Text};
 use aud_verdict::{SessionVerdict, Verdict};
 use std::alloc::{AllocError, Global};
@@ -49,17 +46,6 @@ pub(crate) fn tellings<'s>(
     if pids.is_empty() {
         return told_once(recording, alloc, keys, prepared, asked, sessions);
     }
-    each_alone(alloc, sessions)
-}
-
-/// Each of the sessions, which names nobody.
-fn each_alone<'s>(
-    alloc: Global,
-    sessions: &[&'s SessionVerdict],
-) -> Result<Vec<Told<'s>>, AllocError>
-    ensures { IfOk result (λ told. map telling_of told.items
-        ≡ map alone (map (λ s. s.now) sessions.now)) }
-{
     let mut told = Vec::new(alloc);
     for session in sessions {
         told.push(alone(alloc, *session))?;
@@ -125,21 +111,11 @@ fn by_record(
     let mut index = Places::new(alloc, keys);
     for (number, session) in sessions.iter().enumerate() {
         let at = shared_records(recording, alloc, prepared, asked, *session)?;
-        note_at(&mut index, number, at.as_deref())?;
+        if let Some(records) = at.as_deref() {
+            index.note(number, records)?;
+        }
     }
     Ok(index)
-}
-
-/// Notes the number under these records, if there are some.
-fn note_at(index: &mut Places, number: usize, at: Option<&str>) -> Result<(), AllocError>
-    ensures { OnOk result ((spot : Text)
-        → places_of index.new spot
-        ≡ noted number (is_this spot (option_copied at.entry)) (places_of index.old spot)) }
-{
-    match at {
-        Some(at) => index.note(number, at),
-        None => Ok(()),
-    }
 }
 
 /// Adds what is told of the session with this number, with these records, by the numbers of those that share
@@ -200,24 +176,11 @@ fn pids_at<'s>(
 {
     let mut pids = Vec::new(alloc);
     for number in numbers {
-        push_pid(&mut pids, sessions.get(*number))?;
+        if let Some(session) = sessions.get(*number) {
+            pids.push(session.pid.as_str())?;
+        }
     }
     Ok(pids)
-}
-
-/// Adds the pid of the session, if there is one.
-fn push_pid<'s>(
-    pids: &mut Vec<&'s str>,
-    session: Option<&&'s SessionVerdict>,
-) -> Result<(), AllocError>
-    ensures { OnOk result (map (λ pid. pid.now) pids.new.items
-        ≡ map (λ pid. pid.now) pids.old.items
-        ++ pid_of (option_copied (option_copied session.entry))) }
-{
-    if let Some(session) = session {
-        pids.push(session.pid.as_str())?;
-    }
-    Ok(())
 }
 
 /// The records that the session may share with others.
@@ -293,30 +256,15 @@ fn taps_of(
     ensures { IfOk result (λ places. places.items ≡ taps_of recording.now pid.now fault.now) }
 {
     match fault {
-        Fault::Order => unordered_nodes(recording, alloc, prepared, pid),
+        Fault::Order => {
+            let found = unordered_of(alloc, recording.logs(), prepared, pid)?;
+            let mut nodes = Vec::new(alloc);
+            for at in &found {
+                nodes.push(at.node)?;
+            }
+            Ok(nodes)
+        }
         Fault::Frame | Fault::Orphan => only_client(recording, pid).into_iter().collect(alloc),
         _ => Ok(Vec::new(alloc)),
     }
-}
-
-/// The session's nodes that are out of order.
-fn unordered_nodes(
-    recording: &Recording<'_>,
-    alloc: Global,
-    prepared: &Prepared,
-    pid: &str,
-) -> Result<Vec<usize>, AllocError>
-    requires { IsPreparedOf recording.now prepared.now }
-    ensures { IfOk result (λ nodes. nodes.items
-        ≡ filter (is_unordered recording.now) (own_places recording.now pid.now)) }
-{
-    let found = unordered_of(alloc, recording.logs(), prepared, pid)?;
-    nodes_of(alloc, &found)
-}
-
-/// The nodes of these records.
-fn nodes_of(alloc: Global, found: &[RecordPlace]) -> Result<Vec<usize>, AllocError>
-    ensures { IfOk result (λ nodes. nodes.items ≡ map (λ at. at.node) found.now) }
-{
-    found.iter().map(|at| at.node).collect(alloc)
 }

@@ -1,12 +1,12 @@
 //! The recoveries that clients asked for, by session.
-ghost use Rattle.std.specs.Prelude.{◌≡◌, IfOk, OnOk, false, slice_get};
+ghost use Rattle.std.specs.Prelude.{◌≡◌, IfOk, false, slice_get};
 ghost use Rattle.std.specs.List.{filter};
 ghost use Rattle.std.specs.Option.{option_map, option_map_or};
-ghost use Rattle.aud_base.specs.Places.{noted, places_of};
+ghost use Rattle.aud_base.specs.Places.{places_of};
 ghost use Rattle.aud_node.specs.Cluster.{Cluster};
 ghost use Rattle.aud_node.specs.Stream.{Text};
-ghost use Rattle.aud_session_facts.specs.Recoveries.{is_refused, recoveries_of};
-ghost use Rattle.aud_explain_app.specs.Asked.{AreAsked, asked_for, has_refused, is_for, is_one_refused, numbered, numbers_for, pid_asked};
+ghost use Rattle.aud_session_facts.specs.Recoveries.{is_refused};
+ghost use Rattle.aud_explain_app.specs.Asked.{AreAsked, asked_for, has_refused, is_one_refused, numbers_for, pid_asked};
 
 use aud_base::Places;
 use aud_client::Recording;
@@ -33,7 +33,7 @@ impl Asked {
         ensures { IfOk result (AreAsked recording.now) }
     {
         let all = recoveries(alloc, recording)?;
-        let numbers = numbers_by_session(alloc, keys, recording, &all)?;
+        let numbers = numbers_by_session(recording, alloc, keys, &all)?;
         Ok(Asked { all, numbers })
     }
 
@@ -49,7 +49,13 @@ impl Asked {
         ensures { (c : Cluster) → AreAsked c self.now
             → IfOk result (λ found. found.items ≡ asked_for c pid.now) }
     {
-        numbered(alloc, &self.all, self.numbers.of(pid))
+        let mut found = Vec::new(alloc);
+        for number in self.numbers.of(pid) {
+            if let Some(recovery) = self.all.get(*number) {
+                found.push(*recovery)?;
+            }
+        }
+        Ok(found)
     }
 }
 
@@ -74,19 +80,6 @@ fn is_refused_at(all: &[Recovery], number: usize) -> bool
     }
 }
 
-/// Those of the recoveries with these numbers.
-fn numbered(alloc: Global, all: &[Recovery], numbers: &[usize]) -> Result<Vec<Recovery>, AllocError>
-    ensures { IfOk result (λ found. found.items ≡ numbered all.now numbers.now) }
-{
-    let mut found = Vec::new(alloc);
-    for number in numbers {
-        if let Some(recovery) = all.get(*number) {
-            found.push(*recovery)?;
-        }
-    }
-    Ok(found)
-}
-
 /// Those of the recoveries that were refused.
 pub(crate) fn refused_among(alloc: Global, asked: &[Recovery]) -> Result<Vec<Recovery>, AllocError>
     ensures { IfOk result (λ found. found.items ≡ filter is_refused asked.now) }
@@ -100,9 +93,9 @@ pub(crate) fn refused_among(alloc: Global, asked: &[Recovery]) -> Result<Vec<Rec
 
 /// Of each session the numbers of those of the recoveries that are of it.
 fn numbers_by_session(
+    recording: &Recording<'_>,
     alloc: Global,
     keys: RandomState,
-    recording: &Recording<'_>,
     all: &[Recovery],
 ) -> Result<Places, AllocError>
     ensures { IfOk result (λ numbers. (pid : Text)
@@ -110,26 +103,11 @@ fn numbers_by_session(
 {
     let mut numbers = Places::new(alloc, keys);
     for (number, recovery) in all.iter().enumerate() {
-        note_number(recording, &mut numbers, number, recovery)?;
+        if let Some(pid) = asked_pid(recording, recovery) {
+            numbers.note(number, pid)?;
+        }
     }
     Ok(numbers)
-}
-
-/// Notes the recovery with this number.
-fn note_number(
-    recording: &Recording<'_>,
-    numbers: &mut Places,
-    number: usize,
-    recovery: &Recovery,
-) -> Result<(), AllocError>
-    ensures { OnOk result ((q : Text)
-        → places_of numbers.new q
-        ≡ noted number (is_for recording.now q recovery.now) (places_of numbers.old q)) }
-{
-    match asked_pid(recording, recovery) {
-        Some(pid) => numbers.note(number, pid),
-        None => Ok(()),
-    }
 }
 
 /// The session that was asked for.

@@ -12,10 +12,10 @@ use std::alloc::{AllocError, Global};
 /// The names of the causes that are told of the session, on which this is the verdict, and with which so many others are
 /// told.
 pub(crate) fn causes_told(
+    explained: &Explained<'_>,
     alloc: Global,
     verdict: &Verdict,
     others: usize,
-    explained: &Explained<'_>,
 ) -> Result<CausesTold, AllocError>
     ensures { IfOk result (AreCausesTold verdict.now others explained.now) }
 {

@@ -4,11 +4,10 @@ ghost use Rattle.std.specs.List.{list_any};
 ghost use Rattle.std.specs.Option.{option_copied};
 ghost use Rattle.std.specs.Str.{bytes_eq};
 ghost use Rattle.aud_base.specs.FirstTexts.{with_text};
-ghost use Rattle.aud_base.specs.Places.{places_of, texts_of};
+ghost use Rattle.aud_base.specs.Places.{texts_of};
 ghost use Rattle.aud_node.specs.Cluster.{Cluster};
-ghost use Rattle.aud_node.specs.Stream.{Text};
 ghost use Rattle.aud_explain_app.specs.Asked.{AreAsked};
-ghost use Rattle.aud_explain_app.specs.Chosen.{left_out_of, numbers_of, pids_left_out, session_of, sessions_chosen, sessions_named, sessions_told, within_of};
+ghost use Rattle.aud_explain_app.specs.Chosen.{IsIndex, left_out_of, pids_left_out, session_of, sessions_chosen, sessions_named, sessions_told, within_of};
 ghost use Rattle.aud_explain_app.specs.Missing.{first_missing};
 ghost use Rattle.aud_explain_app.specs.Output.{pids_in};
 ghost use Rattle.aud_explain_app.specs.Strangers.{pids_of};
@@ -87,13 +86,12 @@ fn told<'s>(
 }
 
 /// The numbers of the sessions by their pids.
-fn index_of(
+pub(crate) fn index_of(
     alloc: Global,
     keys: RandomState,
     sessions: &[SessionVerdict],
 ) -> Result<Places, AllocError>
-    ensures { IfOk result (λ index. (pid : Text)
-        → places_of index pid ≡ numbers_of sessions.now pid) }
+    ensures { IfOk result (λ index. IsIndex index sessions.now) }
 {
     let mut index = Places::new(alloc, keys);
     for (number, session) in sessions.iter().enumerate() {
@@ -108,7 +106,7 @@ fn session_of<'s>(
     sessions: &'s [SessionVerdict],
     pid: &str,
 ) -> Option<&'s SessionVerdict>
-    requires { (pid : Text) → places_of index.now pid ≡ numbers_of sessions.now pid }
+    requires { IsIndex index.now sessions.now }
     ensures { option_copied result ≡ session_of sessions.now pid.now }
 {
     match index.of(pid) {
@@ -127,7 +125,7 @@ fn named<'s, 'o>(
     sessions: &'s [SessionVerdict],
     pids: &'o [Text],
 ) -> Result<ChosenSessions<'s, 'o>, Unexplained>
-    requires { (pid : Text) → places_of index.now pid ≡ numbers_of sessions.now pid }
+    requires { IsIndex index.now sessions.now }
     ensures named { (c : Cluster) → AreAsked c asked.now
         → IfOk result (λ found. map (λ s. s.now) found.shown.items
         ≡ sessions_named c only sessions.now pids.now) }
@@ -177,7 +175,16 @@ fn push_once<'s, 'o>(
     if !is_first(seen, pid)? {
         return Ok(());
     }
-    push_named(found, only, asked, session, pid)
+    if is_within(
+        only,
+        &session.verdict,
+        asked.is_refused(session.pid.as_str()),
+    ) {
+        found.shown.push(session)?;
+    } else {
+        found.left_out.push(pid)?;
+    }
+    Ok(())
 }
 
 /// Notes the pid, and says whether it is seen for the first time.
@@ -189,31 +196,4 @@ fn is_first(seen: &mut Places, pid: &str) -> Result<bool, AllocError>
     let before = seen.len();
     seen.note(0, pid)?;
     Ok(seen.len() != before)
-}
-
-/// Adds the session, if it is within what `--only` says; or its pid.
-fn push_named<'s, 'o>(
-    found: &mut ChosenSessions<'s, 'o>,
-    only: Option<Only>,
-    asked: &Asked,
-    session: &'s SessionVerdict,
-    pid: &'o str,
-) -> Result<(), AllocError>
-    ensures found { (c : Cluster) → AreAsked c asked.now
-        → OnOk result (map (λ s. s.now) found.new.shown.items
-        ≡ map (λ s. s.now) found.old.shown.items ++ within_of c only (Some session.now)) }
-    ensures left_out { (c : Cluster) → AreAsked c asked.now
-        → OnOk result (pids_in found.new.left_out.items
-        ≡ pids_in found.old.left_out.items ++ left_out_of c only pid.now (Some session.now)) }
-{
-    if is_within(
-        only,
-        &session.verdict,
-        asked.is_refused(session.pid.as_str()),
-    ) {
-        found.shown.push(session)?;
-    } else {
-        found.left_out.push(pid)?;
-    }
-    Ok(())
 }

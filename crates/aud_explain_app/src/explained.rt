@@ -84,11 +84,13 @@ fn explained_by<'r, 'a>(
     let events = events_of(alloc, &sheet, tap, pid, asked)?;
     let account = account_of(alloc, sheet.recording, pid)?;
     let account = account.as_ref();
-    let noted = noted_of(alloc, sheet.recording, prepared, pid, verdict, account)?;
-    let causes = causes_of(alloc, sheet, tap, pid, verdict, account, &noted)?;
     let turns = turns_of(alloc, &sheet, pid, account)?;
-    let outcome = outcome_of(alloc, sheet, prepared, pid, verdict, account)?;
+    let causes = {
+        let noted = noted_of(alloc, sheet.recording, prepared, pid, verdict, account)?;
+        causes_of(alloc, sheet, tap, pid, verdict, account, &noted)?
+    };
     let refused = all_refused(alloc, &sheet, prepared, asked)?;
+    let outcome = outcome_of(alloc, sheet, prepared, pid, verdict, account)?;
     Ok(Explained {
         outcome,
         turns,

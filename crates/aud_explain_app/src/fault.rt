@@ -3,7 +3,7 @@ ghost use Rattle.std.specs.Prelude.{◌≡◌};
 ghost use Rattle.aud_explain_app.specs.declared.fault.ExplainFault.TheVariants as fault;
 ghost use Rattle.aud_explain_app.specs.declared.fault.Unexplained.TheVariants.{Memory};
 
-use std::alloc::{AllocError, AllocFailed};
+use std::alloc::AllocError;
 
 /// Why there is no output, or after `Write` the front of one.
 #[derive(Clone, Copy, Debug, PartialEq, Eq, Drop)]
@@ -51,14 +51,6 @@ impl From<AllocError> for Unexplained {
     ghost from_gives = { λ _ e. e ≡ Memory };
 
     fn from(_: AllocError) -> Unexplained {
-        Unexplained::Memory
-    }
-}
-
-impl<T: Drop> From<AllocFailed<T>> for Unexplained {
-    ghost from_gives = { λ _ e. e ≡ Memory };
-
-    fn from(_: AllocFailed<T>) -> Unexplained {
         Unexplained::Memory
     }
 }

@@ -1,10 +1,10 @@
 //! Lists of what is told, borrowed for an explanation.
-ghost use Rattle.std.specs.Prelude.{◌≡◌, ◌++◌, IfOk, OnOk, flat_map, map};
+ghost use Rattle.std.specs.Prelude.{◌≡◌, ◌++◌, IfOk, map};
 ghost use Rattle.aud_explanation.specs.declared.cause.CauseOf.TheVariants.{Fault};
 ghost use Rattle.aud_findings.specs.Also.{also_seen};
 ghost use Rattle.std.specs.Option.{option_copied, option_map};
 ghost use Rattle.aud_findings.specs.Refused.{missed_seen};
-ghost use Rattle.aud_explain_app.specs.Lent.{also_told, ask_line, cause_of, cause_told, causes_of_refusal, causes_of_refusals, recoveries_shown, recovery_told, shown_of};
+ghost use Rattle.aud_explain_app.specs.Lent.{also_told, ask_line, cause_of, cause_told, causes_of_refusal, causes_of_refusals, recoveries_shown, recovery_told};
 
 use crate::refused_told::RefusedTold;
 use aud_causes::CauseFound;
@@ -39,30 +39,18 @@ pub(crate) fn refused_lent<'l, 'r>(
 {
     let mut lent = Vec::new(alloc);
     for told in refused {
-        push_recovery(&mut lent, told)?;
+        if let Some(shown) = &told.shown {
+            lent.push(RefusedRecovery {
+                ask: shown.ask,
+                reply: shown.reply,
+                instead: shown.instead,
+                missed: missed_lent(shown),
+                has_cause: !told.causes.is_empty(),
+                refuted: told.refuted.as_slice(),
+            })?;
+        }
     }
     Ok(lent)
-}
-
-/// Adds the refused recovery, if it is shown.
-fn push_recovery<'l, 'r>(
-    lent: &mut Vec<RefusedRecovery<'l, 'r>>,
-    told: &'l RefusedTold<'r>,
-) -> Result<(), AllocError>
-    ensures { OnOk result (map recovery_told lent.new.items
-        ≡ map recovery_told lent.old.items ++ shown_of told.now) }
-{
-    if let Some(shown) = &told.shown {
-        lent.push(RefusedRecovery {
-            ask: shown.ask,
-            reply: shown.reply,
-            instead: shown.instead,
-            missed: missed_lent(shown),
-            has_cause: !told.causes.is_empty(),
-            refuted: told.refuted.as_slice(),
-        })?;
-    }
-    Ok(())
 }
 
 fn missed_lent<'l, 'r>(shown: &'l RefusedShown<'r>) -> Option<&'l [Missed<'r>]>

@@ -1,9 +1,8 @@
 //! What was noted of the taps of a session, for its causes.
-ghost use Rattle.std.specs.Prelude.{◌≡◌, IfOk};
+ghost use Rattle.std.specs.Prelude.{IfOk};
 ghost use Rattle.std.specs.Option.{option_copied, option_map};
 ghost use Rattle.aud_findings.specs.Prepared.{IsPreparedOf};
-ghost use Rattle.aud_cert.specs.declared.fault.Fault.TheVariants.{Orphan};
-ghost use Rattle.aud_explain_app.specs.Noted.{IsOrphanNoted, IsNoted};
+ghost use Rattle.aud_explain_app.specs.Noted.{IsNoted};
 
 use aud_causes::Noted;
 use aud_cert::Fault;
@@ -14,7 +13,8 @@ use aud_verdict::Verdict;
 use std::alloc::{AllocError, Global};
 
 /// What was noted of the session with this pid: where the fault is `ORDER` of each of its nodes that is out of order the
-/// first record that is, and where it is `ORPHAN` the first stay of its client's tap with events of which nobody knows the session.
+/// first record that is, and where it is `ORPHAN` the first stay of its client's tap with events of which nobody knows the
+/// session.
 pub(crate) fn noted_of(
     alloc: Global,
     recording: &Recording<'_>,
@@ -34,27 +34,14 @@ pub(crate) fn noted_of(
         }),
         Verdict::No(Fault::Orphan) => Ok(Noted {
             unordered: Vec::new(alloc),
-            orphan: orphan_noted(recording, prepared, account),
+            orphan: match account {
+                Some(account) => orphan_in(recording, prepared, account.client),
+                None => None,
+            },
         }),
         _ => Ok(Noted {
             unordered: Vec::new(alloc),
             orphan: None,
         }),
-    }
-}
-
-/// The first stay of the client's tap with events of which nobody knows the session, if there is an account.
-fn orphan_noted(
-    recording: &Recording<'_>,
-    prepared: &Prepared,
-    account: Option<&Account<'_, '_>>,
-) -> Option<usize>
-    requires { IsPreparedOf recording.now prepared.now }
-    ensures { IsOrphanNoted recording.now Orphan
-        (option_map (λ a. a.client) (option_copied account.entry)) result }
-{
-    match account {
-        Some(account) => orphan_in(recording, prepared, account.client),
-        None => None,
     }
 }

@@ -1,12 +1,12 @@
 //! What is written for a recording.
-ghost use Rattle.std.specs.Prelude.{◌≡◌, ◌≢◌, ◌++◌, ◌<◌, ◌≤◌, ℕ, [], IfOk, OnOk, Err, None, Some, string_bytes};
+ghost use Rattle.std.specs.Prelude.{◌≡◌, ◌++◌, ◌<◌, ◌≤◌, ℕ, [], IfOk, OnOk, Err, None, Some, string_bytes};
 ghost use Rattle.aud_node.specs.Cluster.{cluster_of};
 ghost use Rattle.aud_node.specs.Names.{AreNamedOnce};
 ghost use Rattle.aud_maker.specs.Sessions.{sessions_of};
 ghost use Rattle.aud_verdict.specs.Verdicts.{AreVerdicts};
 ghost use Rattle.aud_explain_app.specs.Alike.{tellings};
 ghost use Rattle.aud_explain_app.specs.Asked.{AreAsked};
-ghost use Rattle.aud_explain_app.specs.Output.{AreFigures, IsExplaining, form_of, pids_in, summary_in, timed};
+ghost use Rattle.aud_explain_app.specs.Output.{AreFigures, IsExplaining, form_of, pids_in, summary_in};
 ghost use Rattle.aud_explain_app.specs.Chosen.{pids_left_out, sessions_chosen};
 ghost use Rattle.aud_explain_app.specs.Missing.{first_missing, pids_known};
 ghost use Rattle.aud_explain_app.specs.Strangers.{pids_of};
@@ -28,7 +28,7 @@ use crate::summary::{Input, Summary, says_nothing, summary_of};
 use crate::written::{Form, Layout};
 use aud_cli::{ExplainOptions, OutputForm};
 use aud_client::Recording;
-use aud_desk::{AuditFault, OpenGate, Report, audit_with};
+use aud_desk::{AuditFault, OpenGate, audit_with};
 use aud_input::{InputFile, RecordLines, Recorded, Size};
 use aud_rows::Sheet;
 use aud_verdict::{Output, SessionVerdict, Status};
@@ -75,27 +75,6 @@ pub(crate) fn form_of(options: &ExplainOptions) -> Form
     }
 }
 
-/// The verdicts, with or without the whole, by so many workers.
-fn judged<H: Threads + Wait + Clock + Sync>(
-    rt: &H,
-    alloc: Global,
-    workers: u8,
-    whole: bool,
-    recording: &Recording<'_>,
-) -> Result<Report, Unexplained>
-    requires { (0 < workers) × (workers ≤ 64) }
-    ensures verdicts { IfOk result (λ report. AreVerdicts recording.now whole
-        (sessions_of recording.now) report.verdicts.items) }
-    ensures fault { (number : ℕ) → result ≢ Err (NoSession number) }
-{
-    match audit_with(rt, alloc, recording, workers as usize, whole, &OpenGate) {
-        Ok(report) => Ok(report),
-        Err(AuditFault::Workers) => unreachable!(),
-        Err(AuditFault::Spawn) => Err(Unexplained::Spawn),
-        Err(AuditFault::Memory(_)) => Err(Unexplained::Memory),
-    }
-}
-
 /// Writes the summary at the end, with what was told of causes.
 fn push_summary(
     alloc: Global,
@@ -130,12 +109,13 @@ fn seconds_since<H: Clock>(rt: &H, start: Option<Instant>) -> u64 {
     }
 }
 
-/// The explanations, and the summary of what was read since `start`. The lines are those of the records, in these files.
+/// The explanations, and the summary of what was read since `start`, of a recording that is judged by as many workers as
+/// the words say. The lines are those of the records, in these files.
 pub(crate) fn output_of<'o, H: Threads + Wait + Clock + Sync>(
+    recorded: &Recorded,
     rt: &H,
     alloc: Global,
     keys: RandomState,
-    recorded: &Recorded,
     options: &'o ExplainOptions,
     start: Option<Instant>,
     lines: &RecordLines,
@@ -154,26 +134,30 @@ pub(crate) fn output_of<'o, H: Threads + Wait + Clock + Sync>(
         recording: &recording,
         lines,
     };
-    let report = judged(rt, alloc, options.workers, options.whole, &recording)?;
-    explaining(
-        rt,
-        alloc,
-        keys,
-        sheet,
-        options,
-        start,
-        files,
-        recorded.size,
-        report.verdicts,
-    )
+    match audit_with(rt, alloc, &recording, threads, options.whole, &OpenGate) {
+        Ok(report) => explaining(
+            sheet,
+            rt,
+            alloc,
+            keys,
+            options,
+            start,
+            files,
+            recorded.size,
+            report.verdicts,
+        ),
+        Err(AuditFault::Workers) => unreachable!(),
+        Err(AuditFault::Spawn) => Err(Unexplained::Spawn),
+        Err(AuditFault::Memory(_)) => Err(Unexplained::Memory),
+    }
 }
 
 /// The same over the recording, of whose sessions these are the verdicts.
 fn explaining<'o, H: Threads + Clock + Sync>(
+    sheet: Sheet<'_, '_>,
     rt: &H,
     alloc: Global,
     keys: RandomState,
-    sheet: Sheet<'_, '_>,
     options: &'o ExplainOptions,
     start: Option<Instant>,
     files: &[InputFile],
@@ -191,21 +175,28 @@ fn explaining<'o, H: Threads + Clock + Sync>(
     let figures = figures_of(sheet.recording, options, &asked, size, &verdicts);
     let mut sessions = verdicts;
     add_strangers(
+        sheet.recording,
         alloc,
         keys,
         options.whole,
-        sheet.recording,
-        &asked,
+        &asked.all,
         &mut sessions,
     )?;
-    let told = told_sessions(rt, alloc, keys, sheet, options, files, &asked, &sessions)?;
+    let told = told_sessions(sheet, rt, alloc, keys, options, files, &asked, &sessions)?;
     let Explanations {
         text,
         causes,
         left_out,
     } = told;
     let mut out = text;
-    let summary = timed(figures.summary, seconds_since(rt, start));
+    let seconds = seconds_since(rt, start);
+    let summary = Summary {
+        input: Input {
+            seconds,
+            ..figures.summary.input
+        },
+        ..figures.summary
+    };
     push_summary(alloc, &mut out, form_of(options), &summary, &causes)?;
     let output = Output {
         status: figures.status,
@@ -242,25 +233,12 @@ fn figures_of(
     }
 }
 
-/// The summary with this time.
-fn timed(summary: Summary, seconds: u64) -> Summary
-    ensures { result ≡ timed summary seconds }
-{
-    Summary {
-        input: Input {
-            seconds,
-            ..summary.input
-        },
-        ..summary
-    }
-}
-
 /// The explanations of those of the sessions that are shown, of those with the same fault at the same record once.
 fn told_sessions<'o, H: Threads + Sync>(
+    sheet: Sheet<'_, '_>,
     rt: &H,
     alloc: Global,
     keys: RandomState,
-    sheet: Sheet<'_, '_>,
     options: &'o ExplainOptions,
     files: &[InputFile],
     asked: &Asked,
@@ -298,13 +276,13 @@ fn told_sessions<'o, H: Threads + Sync>(
     let mut text = String::new(alloc);
     let mut causes = Vec::new(alloc);
     push_sessions(
+        sheet,
         rt,
         alloc,
         threads,
         &mut text,
         &mut causes,
         layout,
-        sheet,
         &prepared,
         asked,
         &told,

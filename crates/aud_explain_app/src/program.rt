@@ -1,15 +1,12 @@
 //! A whole run of `explain`: files in, explanations out.
-ghost use Rattle.std.specs.Prelude.{◌≡◌, ◌≢◌, ◌<◌, ◌≤◌, [], true, IfErr, IfOk, OnErr, Err, None, length, map, option_map};
+ghost use Rattle.std.specs.Prelude.{◌≡◌, ◌≢◌, ◌<◌, ◌≤◌, true, IfErr, IfOk, OnErr, Err, None, length, map, option_map};
 ghost use Rattle.std.specs.Io.KnownBytes.{Appends};
 ghost use Rattle.aud_base.specs.Written.{AppendsFront};
 ghost use Rattle.aud_base.specs.Watched.{inner_of, has_failed};
 ghost use Rattle.aud_node.specs.Names.{AreNamedOnce};
-ghost use Rattle.aud_explain_app.specs.Output.{AreUntold, IsAnswer, IsExplanation, IsOf, IsTold, IsUntold, files_told, form_of, lines_told};
-ghost use Rattle.aud_explain_app.specs.RefusedLine.{refused_output};
+ghost use Rattle.aud_explain_app.specs.Output.{AreUntold, IsAnswer, IsExplanation, IsOf, IsTold, IsUntold, files_told, lines_told};
 ghost use Rattle.aud_explain_app.specs.Run.{Writes, WritesFront};
-ghost use Rattle.aud_explain_app.specs.declared.fault.ExplainFault.TheVariants as fault;
 ghost use Rattle.aud_explain_app.specs.declared.fault.ExplainFault.TheVariants.{Write};
-ghost use Rattle.aud_explain_app.specs.declared.fault.Unexplained.TheVariants.{Memory};
 
 use crate::ending::Ending;
 use crate::fault::{ExplainFault, Unexplained};
@@ -21,7 +18,7 @@ use crate::written::Layout;
 use aud_base::{Watched, write_out};
 use aud_cli::ExplainOptions;
 use aud_input::{
-    InputFile, InputFiles, PartLines, ReadingFault, RecordLines, Recorded, Refusal, read_files,
+    InputFile, InputFiles, PartLines, ReadingFault, RecordLines, Recorded, read_files,
 };
 use aud_verdict::{Output, Status};
 use std::alloc::Global;
@@ -35,10 +32,10 @@ use std::time::{Clock, Instant};
 /// What is told of the recording, where the lines of its records are these, in these files: the records that are named,
 /// or, where none is, its sessions.
 fn told_with<'o, H: Threads + Wait + Clock + Sync>(
+    recorded: &Recorded,
     rt: &H,
     alloc: Global,
     keys: RandomState,
-    recorded: &Recorded,
     options: &'o ExplainOptions,
     start: Option<Instant>,
     lines: &RecordLines,
@@ -52,31 +49,23 @@ fn told_with<'o, H: Threads + Wait + Clock + Sync>(
 {
     let records = options.records.as_slice();
     if records.is_empty() {
-        let explained = output_of(rt, alloc, keys, recorded, options, start, lines, files)?;
+        let explained = output_of(recorded, rt, alloc, keys, options, start, lines, files)?;
         return Ok(explained);
     }
     let form = form_of(options);
     let layout = Layout { form, files };
     let output = records_output(recorded.taps.as_slice(), alloc, layout, lines, records)?;
-    Ok(all_of(alloc, output))
-}
-
-/// The output, with no session left out.
-fn all_of<'o>(alloc: Global, output: Output) -> Told<'o>
-    ensures output { result.output ≡ output }
-    ensures left_out { result.left_out.items ≡ [] }
-{
     let left_out = Vec::new(alloc);
-    Told { output, left_out }
+    Ok(Told { output, left_out })
 }
 
 /// What is told of the recording, where it is this part, its lines named as those of the input that they come from, or a
 /// whole, whose files are those that the words name.
 fn told_of<'o, H: Threads + Wait + Clock + Sync>(
+    recorded: &Recorded,
     rt: &H,
     alloc: Global,
     keys: RandomState,
-    recorded: &Recorded,
     options: &'o ExplainOptions,
     start: Option<Instant>,
     part: Option<&PartLines>,
@@ -96,30 +85,14 @@ fn told_of<'o, H: Threads + Wait + Clock + Sync>(
         let lines = &recorded.lines;
         let files = InputFiles::of(alloc, options.files.as_slice(), &recorded.counts)?;
         let files = files.as_slice();
-        return told_with(rt, alloc, keys, recorded, options, start, lines, files);
+        return told_with(recorded, rt, alloc, keys, options, start, lines, files);
     };
     if !part.is_of(recorded.size) {
         return Err(ExplainFault::OtherPart);
     }
     let lines = recorded.lines.named(alloc, &part.runs)?;
     let files = part.files.as_slice();
-    told_with(rt, alloc, keys, recorded, options, start, &lines, files)
-}
-
-/// What is told of a line that is refused.
-fn told_refused<'o>(
-    alloc: Global,
-    options: &'o ExplainOptions,
-    refused: &Refusal,
-) -> Result<Told<'o>, ExplainFault>
-    ensures told { IfOk result (λ told. told.output
-        ≡ refused_output (form_of options.now.form) options.now.files refused.now) }
-    ensures left_out { IfOk result (λ told. told.left_out.items ≡ []) }
-    ensures fault { IfErr result (λ e. e ≡ fault.Unexplained Memory) }
-{
-    let files = options.files.as_slice();
-    let output = refused_output(alloc, form_of(options), files, refused)?;
-    Ok(all_of(alloc, output))
+    told_with(recorded, rt, alloc, keys, options, start, &lines, files)
 }
 
 /// What is told of the files.
@@ -142,9 +115,16 @@ fn told<'o, H: Threads + Wait + Clock + Sync, R: Read>(
     match read_files(rt, options.workers as usize, alloc, keys, files) {
         Ok(recorded) => {
             let recorded = ManuallyDrop::new(recorded);
-            told_of(rt, alloc, keys, &recorded, options, start, part)
+            told_of(&recorded, rt, alloc, keys, options, start, part)
         }
-        Err(ReadingFault::Refused(refusal)) => told_refused(alloc, options, &refusal),
+        Err(ReadingFault::Refused(refusal)) => {
+            let names = options.files.as_slice();
+            let Ok(output) = refused_output(alloc, form_of(options), names, &refusal) else {
+                return Err(Unexplained::Memory.into());
+            };
+            let left_out = Vec::new(alloc);
+            Ok(Told { output, left_out })
+        }
         Err(ReadingFault::Unread { file }) => Err(Unexplained::Unread { file }.into()),
         Err(ReadingFault::Memory) => Err(Unexplained::Memory.into()),
     }

@@ -3,7 +3,7 @@ ghost use Rattle.std.specs.Prelude.{◌≡◌, ◌++◌, IfOk, OnOk, Some, slice
 ghost use Rattle.std.specs.Option.{option_map};
 ghost use Rattle.serde_json.specs.View.{view};
 ghost use Rattle.aud_explanation.specs.JsonValue.{text_or_null};
-ghost use Rattle.aud_explain_app.specs.RefusedLine.{file_told, header_data, header_line, json_line, named_line, place_line, refused_data, refused_output};
+ghost use Rattle.aud_explain_app.specs.RefusedLine.{file_told, header_data, header_line, json_data, json_line, named_line, place_line, refused_data, refused_output};
 
 use crate::written::Form;
 use aud_explanation::push_printed;
@@ -104,11 +104,22 @@ fn refused_json(
     ensures { IfOk result (λ text. string_bytes text
         ≡ json_line names.now refused.now help.now) }
 {
-    let told = told_value(alloc, names, refused, help)?;
-    let value = json!(in alloc; {"refused": told, "v": 1u64})?;
+    let value = refused_value(alloc, names, refused, help)?;
     let mut out = value.to_string(alloc)?;
     writeln!(&mut out, "")?;
     Ok(out)
+}
+
+fn refused_value(
+    alloc: Global,
+    names: &[Text],
+    refused: &Refusal,
+    help: &str,
+) -> Result<Value, AllocError>
+    ensures { IfOk result (λ value. view value ≡ json_data names.now refused.now help.now) }
+{
+    let told = told_value(alloc, names, refused, help)?;
+    json!(in alloc; {"refused": told, "v": 1u64})
 }
 
 fn told_value(

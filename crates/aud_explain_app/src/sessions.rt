@@ -35,13 +35,13 @@ pub struct ToldText {
 /// Writes what is told of these sessions at the end, one after the other, and adds what is told of causes. They are made
 /// in parts, each shared out among at most so many threads.
 pub(crate) fn push_sessions<H: Threads + Sync>(
+    sheet: Sheet<'_, '_>,
     rt: &H,
     alloc: Global,
     threads: usize,
     out: &mut String,
     causes: &mut Vec<CausesTold>,
     layout: Layout<'_>,
-    sheet: Sheet<'_, '_>,
     prepared: &Prepared,
     asked: &Asked,
     sessions: &[Told<'_>],
@@ -56,7 +56,7 @@ pub(crate) fn push_sessions<H: Threads + Sync>(
     while done < sessions.len() {
         let rest = &sessions[done..];
         let part = &rest[..rest.len().min(PART)];
-        let texts = texts_of(rt, alloc, threads, layout, sheet, prepared, asked, part)?;
+        let texts = texts_of(sheet, rt, alloc, threads, layout, prepared, asked, part)?;
         push_all(out, causes, texts)?;
         done += part.len();
     }
@@ -84,11 +84,11 @@ fn push_all(
 
 /// The explanation of each of these sessions, in their order.
 fn texts_of<H: Threads + Sync>(
+    sheet: Sheet<'_, '_>,
     rt: &H,
     alloc: Global,
     threads: usize,
     layout: Layout<'_>,
-    sheet: Sheet<'_, '_>,
     prepared: &Prepared,
     asked: &Asked,
     sessions: &[Told<'_>],
@@ -110,15 +110,15 @@ fn texts_of<H: Threads + Sync>(
             requires asked { AreAsked sheet.recording.now asked.now }
             ensures { IfOk result (IsTextOf sheet.entry.recording.now sheet.entry.lines.now
                 layout.entry.form layout.entry.files.now (telling_of session.now)) }
-        { text_of(alloc, layout, sheet, prepared, asked, session) },
+        { text_of(sheet, alloc, layout, prepared, asked, session) },
     )
 }
 
 /// What is told of the session.
 fn text_of(
+    sheet: Sheet<'_, '_>,
     alloc: Global,
     layout: Layout<'_>,
-    sheet: Sheet<'_, '_>,
     prepared: &Prepared,
     asked: &Asked,
     session: &Told<'_>,
@@ -134,23 +134,23 @@ fn text_of(
     let own = own.as_slice();
     let explained = explained_of(alloc, sheet, prepared, pid, verdict, own)?;
     let alike = session.alike.as_slice();
-    told_text(alloc, layout, pid, verdict, alike, &explained)
+    told_text(&explained, alloc, layout, pid, verdict, alike)
 }
 
 /// What is told of the session with this pid, on which this is the verdict, and the pids of those that it names.
 fn told_text<'s>(
+    explained: &'s Explained<'s>,
     alloc: Global,
     layout: Layout<'_>,
     pid: &'s str,
     verdict: &'s Verdict,
     alike: &'s [&'s str],
-    explained: &'s Explained<'s>,
 ) -> Result<ToldText, AllocError>
     ensures { IfOk result (λ told. IsWritten layout.entry.form layout.entry.files.now pid.now
         verdict.now (map (λ other. other.now) alike.now) explained.now (string_bytes told.text)
         × AreCausesTold verdict.now (length alike.now) explained.now told.causes) }
 {
-    let text = written(alloc, layout, pid, verdict, alike, explained)?;
-    let causes = causes_told(alloc, verdict, alike.len(), explained)?;
+    let text = written(explained, alloc, layout, pid, verdict, alike)?;
+    let causes = causes_told(explained, alloc, verdict, alike.len())?;
     Ok(ToldText { text, causes })
 }

@@ -1,6 +1,6 @@
 //! How a run of `explain` ends.
 ghost use Rattle.std.specs.Prelude.{◌≡◌};
-ghost use Rattle.aud_explain_app.specs.Status.{fails, some_fails, status_by};
+ghost use Rattle.aud_explain_app.specs.Status.{fails, status_by};
 
 use aud_cli::FailOn;
 use aud_session_facts::{Recovery, refused};
@@ -22,17 +22,15 @@ pub(crate) fn status_by(
     if fail_on.refused && refused(recoveries) > 0 {
         return status_of(false);
     }
-    status_of(!some_fails(fail_on, verdicts))
+    for session in verdicts {
+        if fails(fail_on, &session.verdict) {
+            return status_of(false);
+        }
+    }
+    status_of(true)
 }
 
-fn some_fails(fail_on: FailOn, verdicts: &[SessionVerdict]) -> bool
-    ensures { result ≡ some_fails fail_on verdicts.now }
-{
-    verdicts
-        .iter()
-        .any(|session| fails(fail_on, &session.verdict))
-}
-
+/// Whether a session with this verdict makes status 1.
 fn fails(fail_on: FailOn, verdict: &Verdict) -> bool
     ensures { result ≡ fails fail_on verdict.now }
 {

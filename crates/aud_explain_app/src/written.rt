@@ -53,12 +53,12 @@ fn text_of(
 
 /// What is told of the session with this pid, on which this is the verdict, and the pids of those that it names.
 pub fn written<'s>(
+    explained: &'s Explained<'s>,
     alloc: Global,
     layout: Layout<'_>,
     pid: &'s str,
     verdict: &'s Verdict,
     alike: &'s [&'s str],
-    explained: &'s Explained<'s>,
 ) -> Result<String, AllocError>
     ensures { IfOk result (λ text. IsWritten layout.entry.form layout.entry.files.now pid.now
         verdict.now (map (λ other. other.now) alike.now) explained.now (string_bytes text)) }
