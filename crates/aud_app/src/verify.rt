@@ -1,5 +1,5 @@
 //! The answers on the certificates of an input.
-ghost use Rattle.std.specs.Prelude.{◌≡◌, ◌<◌, length, IfOk};
+ghost use Rattle.std.specs.Prelude.{◌<◌, length, IfOk};
 ghost use Rattle.aud_cert.specs.Certificate.{IsOver};
 ghost use Rattle.aud_cert.specs.Reading.{certificate_of};
 ghost use Rattle.aud_app.specs.AnswersInEveryRun.{AnswerHoldsInEveryRun};

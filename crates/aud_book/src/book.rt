@@ -1,5 +1,5 @@
 //! The lines of each tap, and the order in which they came.
-ghost use Rattle.std.specs.Prelude.{◌≡◌, ◌≢◌, true, false, ℕ, ◌+◌, ◌<◌, [], ◌∷◌, ◌++◌, IfOk, OnOk, OnErr, vec_len, length, map};
+ghost use Rattle.std.specs.Prelude.{◌≡◌, ◌≢◌, true, false, ◌+◌, ◌<◌, [], ◌∷◌, ◌++◌, IfOk, OnOk, OnErr, vec_len, length, map};
 ghost use Rattle.aud_book.specs.History.{IsMergingOf, lines_at, texts, pairs};
 ghost use Rattle.aud_book.specs.Taps.{seen, seen_taps, names_of, unposted};
 

@@ -1,6 +1,6 @@
 //! A desk at which threads post lines.
-ghost use Rattle.std.specs.Prelude.{◌≡◌, ◌≢◌, ℕ, ◌+◌, ◌<◌, ◌≤◌, true, false, [], ◌∷◌, ◌++◌, IfOk, IfErr, OnOk, OnErr, IfSome, IfNone, IsTrue, vec_len, length, map, take};
-ghost use Rattle.aud_book.specs.History.{IsMergingOf, texts, pairs, lines_at};
+ghost use Rattle.std.specs.Prelude.{◌≡◌, ◌≢◌, ◌+◌, ◌<◌, false, [], ◌∷◌, ◌++◌, IfOk, IfErr, OnOk, IsTrue, length, map};
+ghost use Rattle.aud_book.specs.History.{IsMergingOf, texts, pairs};
 ghost use Rattle.aud_book.specs.Taps.{seen_taps, unposted};
 ghost use Rattle.aud_book.specs.Names.{are_desk_names};
 ghost use Rattle.aud_book.specs.Refusals.{refusal};

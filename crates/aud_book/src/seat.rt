@@ -40,7 +40,6 @@ pub fn empty_seat<'a, L: Posts>(
 }
 
 impl<'a, L: Posts> TapSeat<'a, L> {
-    ghost use Rattle.std.specs.Prelude.{map};
     ghost use Rattle.aud_book.specs.History.{texts};
     ghost use Rattle.aud_book.specs.Seats.{lines_of};
 

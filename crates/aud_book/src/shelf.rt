@@ -1,5 +1,5 @@
 //! What lies under a desk's lock.
-ghost use Rattle.std.specs.Prelude.{◌≡◌, ◌≢◌, ℕ, ◌+◌, ◌<◌, ◌≤◌, true, false, [], ◌∷◌, ◌++◌, IfOk, IfErr, OnOk, OnErr, vec_len};
+ghost use Rattle.std.specs.Prelude.{◌≡◌, ◌≢◌, ◌+◌, ◌<◌, true, false, [], ◌∷◌, ◌++◌, IfOk, IfErr, OnOk, OnErr, vec_len};
 ghost use Rattle.aud_book.specs.History.{IsMergingOf, pairs, lines_at, texts};
 ghost use Rattle.aud_book.specs.Taps.{seen, seen_taps};
 ghost use Rattle.aud_book.specs.declared.fault.BackFault.{BackFault};

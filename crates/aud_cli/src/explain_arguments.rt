@@ -1,5 +1,5 @@
 //! The arguments of `explain`.
-ghost use Rattle.std.specs.Prelude.{◌≡◌, ◌++◌, ◌∷◌, [], OnOk, ◌≢◌, ◌≤◌, Some, None, IfErr, IfOk, IfSome, option_map, slice_get};
+ghost use Rattle.std.specs.Prelude.{◌≡◌, ◌++◌, ◌∷◌, [], OnOk, ◌≢◌, ◌≤◌, Some, None, IfErr, IfOk, IfSome, slice_get};
 ghost use Rattle.clap.specs.Words.{kind_of};
 ghost use Rattle.aud_cli.specs.ExplainArguments.{AreWithin, asked, choices_of, is_mixed, lacks_whole, no_choices, options_of, records_of, with_given};
 

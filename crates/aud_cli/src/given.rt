@@ -1,6 +1,5 @@
 //! The arguments as options and files.
 ghost use Rattle.std.specs.Prelude.{◌≡◌, ◌≤◌, ◌++◌, drop, length, map, IfOk, IfSome, OnOk, option_map};
-ghost use Rattle.std.specs.Str.{bytes_eq};
 ghost use Rattle.aud_cli.specs.Given.{alone, alone_or_number, file, given_of, is_file, number_in, takes_number, takes_value, values_of};
 ghost use Rattle.aud_cli.specs.Private.Steps.{is_end, next_given};
 

@@ -3,7 +3,7 @@ ghost use Rattle.std.specs.Prelude.{◌≡◌, ◌+◌, ◌^◌, ◌<◌, ◌++�
 ghost use Rattle.aud_eio.specs.Packet.{engine_view, engine_packet_of};
 ghost use Rattle.aud_eio.specs.Body.{engine_packets_of};
 ghost use Rattle.aud_sio.specs.Message.{Text, messages_of, at};
-ghost use Rattle.aud_sio.specs.Packet.{packet_of, packet_view};
+ghost use Rattle.aud_sio.specs.Packet.{packet_of};
 ghost use Rattle.aud_client.specs.TapPackets.{is_connection_kind, one_of, client_packet, client_packet_in};
 ghost use Rattle.std.specs.List.{AllZip};
 ghost use Rattle.aud_client.specs.Private.Ahead.{Carries};

@@ -5,12 +5,11 @@ ghost use Rattle.aud_tap.specs.declared.records.StreamRec.{StreamRec};
 ghost use Rattle.aud_tap.specs.declared.records.ClientRec.{ClientRec};
 ghost use Rattle.aud_node.specs.Stream.{Text};
 ghost use Rattle.aud_client.specs.TapPackets.{Connection, tap_packets};
-ghost use Rattle.aud_client.specs.Replies.{tap_names};
 ghost use Rattle.aud_client.specs.Stays.{stays};
 ghost use Rattle.aud_client.specs.StaySeen.{TellsAltered, stay_of};
 ghost use Rattle.aud_client.specs.PlacedStays.{PlacedPacket, forgotten, placed_stays};
 ghost use Rattle.aud_client.specs.AreRecordsOf.{AreRecordsOf, placed_packets};
-ghost use Rattle.aud_client.specs.Received.{transcript_of, tap_stays, received_list, stay_names_pid, stays_naming, are_in_namespace, frames_by_stay};
+ghost use Rattle.aud_client.specs.Received.{transcript_of, tap_stays, received_list, stays_naming, are_in_namespace, frames_by_stay};
 
 /// Where all stays that name the session are in one namespace, what the session received, in the order of the tap, is
 /// the frames of those stays, stay after stay.

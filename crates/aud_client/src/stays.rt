@@ -9,7 +9,6 @@ ghost use Rattle.aud_client.specs.StaySeen.{StaySeen};
 ghost use Rattle.aud_client.specs.PlacedStays.{PlacedPacket};
 ghost use Rattle.aud_client.specs.StayPlaces.{PlacesSeen};
 ghost use Rattle.aud_node.specs.Recoverable.{is_event};
-ghost use Rattle.aud_node.specs.Stream.{Text};
 ghost use Rattle.aud_client.specs.Private.Ahead.{IsFoundIn};
 ghost use Rattle.aud_client.specs.Private.Kept.{Keeps, BeginsAt, GoesOn, open_at, place_for, unless_replied, empty_stay, grown, no_places, grown_places, part_of, with_part};
 

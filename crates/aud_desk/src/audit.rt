@@ -1,5 +1,5 @@
 //! The audit of all sessions, by several workers.
-ghost use Rattle.std.specs.Prelude.{◌≡◌, ◌+◌, ◌<◌, ◌≤◌, ◌⊎◌, ℕ, [], IfOk, IfErr, IsErrOf, All, count_by, length, map, slice_get, string_bytes, vec_len, zip, Some};
+ghost use Rattle.std.specs.Prelude.{◌≡◌, ◌+◌, ◌<◌, ◌≤◌, ◌⊎◌, ℕ, IfOk, IfErr, IsErrOf, count_by, length, map, slice_get, string_bytes, vec_len, zip, Some};
 ghost use Rattle.aud_verdict.specs.declared.verdict.Verdict.{Verdict};
 ghost use Rattle.aud_verdict.specs.YesOf.{is_yes};
 ghost use Rattle.aud_maker.specs.Sessions.{sessions_of};

@@ -1,5 +1,5 @@
 //! Tickets that threads draw, each once and none left out.
-ghost use Rattle.std.specs.Prelude.{◌≡◌, ℕ, ◌+◌, ◌^◌, ◌<◌, ◌≤◌, true, false, [], ◌∷◌, ◌++◌, IfOk, IfSome, IfNone, vec_len, EachIndex, slice_get};
+ghost use Rattle.std.specs.Prelude.{◌≡◌, ℕ, ◌+◌, ◌^◌, ◌<◌, ◌≤◌, true, false, [], ◌∷◌, ◌++◌, IfOk, IfSome, IfNone, vec_len};
 ghost use Rattle.aud_desk.specs.Draws.{late_count, below, past_all};
 
 use crate::seat_view::{Bound, SeatView};

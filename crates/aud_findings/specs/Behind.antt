@@ -1,7 +1,6 @@
 -- Where the node of a turn was behind the one before it.
 use Rattle.std.specs.Prelude.{◌-◌, ◌&&◌, ℕ, Bool, false, List, [], length, Option, Some, None, if◌then◌else◌, nat_lt, nat_le, slice_get}
 use Rattle.std.specs.List.{find}
-use Rattle.std.specs.Option.{option_and_then}
 use Rattle.aud_tap.specs.declared.records.StreamRec.{StreamRec}
 use Rattle.aud_node.specs.Lists.{numbers_from}
 use Rattle.aud_node.specs.Cluster.{Cluster}

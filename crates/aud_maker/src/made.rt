@@ -1,9 +1,7 @@
 //! The certificate of a chain of turns.
-ghost use Rattle.std.specs.Prelude.{◌≡◌, IfOk, map, true};
+ghost use Rattle.std.specs.Prelude.{◌≡◌, IfOk, map};
 ghost use Rattle.std.specs.List.{All};
 ghost use Rattle.aud_rooms.specs.TurnPlaces.{IsWithin, IsInOrder};
-ghost use Rattle.aud_rooms.specs.Turns.{slice_of};
-ghost use Rattle.aud_rooms.specs.Spans.{AreSpansOfTurns};
 ghost use Rattle.aud_maker.specs.Made.{turn_seen, IsCertificateOf};
 
 use crate::chain::Chain;

@@ -1,8 +1,5 @@
 //! Makes the certificate of a session.
 ghost use Rattle.std.specs.Prelude.{◌≡◌, IfOk, IfErr, OnOk};
-ghost use Rattle.std.specs.Option.{is_some};
-ghost use Rattle.aud_node.specs.OwnPlaces.{own_places};
-ghost use Rattle.aud_maker.specs.Begun.{turn_begun};
 ghost use Rattle.aud_maker.specs.Faults.{HasNoMakeFault, IsWhy};
 ghost use Rattle.aud_maker.specs.Made.{IsMade};
 

@@ -2,7 +2,7 @@
 ghost use Rattle.std.specs.Prelude.{◌≡◌, option_map, slice_get};
 ghost use Rattle.std.specs.Option.{option_copied};
 ghost use Rattle.aud_node.specs.Cluster.{node_log};
-ghost use Rattle.aud_merge.specs.Private.Causes.{awaited, awaited_by, cause_seen, entry_cause, told, told_by, told_entry};
+ghost use Rattle.aud_merge.specs.Private.Causes.{awaited, awaited_by, cause_seen, told, told_by, told_entry};
 
 use crate::step::Step;
 use aud_node::Logs;

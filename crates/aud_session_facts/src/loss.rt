@@ -1,5 +1,5 @@
 //! What a client missed where its recovery was refused.
-ghost use Rattle.std.specs.Prelude.{◌≡◌, IfOk, MatchOption, None};
+ghost use Rattle.std.specs.Prelude.{IfOk, MatchOption, None};
 ghost use Rattle.aud_maker.specs.Made.{IsMade};
 ghost use Rattle.aud_session_facts.specs.Missed.{IsMissed, IsMissedFrom, IsUntold};
 

@@ -1,5 +1,5 @@
 //! The bundle of a cluster that runs a schedule.
-ghost use Rattle.std.specs.Prelude.{◌≡◌, ◌≤◌, true, IfOk, MatchOption, Ok, Err};
+ghost use Rattle.std.specs.Prelude.{◌≡◌, ◌≤◌, IfOk, MatchOption, Ok, Err};
 ghost use Rattle.aud_sim.specs.Cluster.{seen};
 ghost use Rattle.aud_sim.specs.Schedule.{scheduled, simulated, Simulates};
 

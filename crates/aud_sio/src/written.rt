@@ -1,5 +1,5 @@
 //! The text of a packet.
-ghost use Rattle.std.specs.Prelude.{◌≡◌, ◌++◌, IfErr, IfOk, Ok, OnOk, option_map, string_bytes};
+ghost use Rattle.std.specs.Prelude.{◌≡◌, ◌++◌, IfErr, IfOk, Ok, OnOk, string_bytes};
 ghost use Rattle.aud_sio.specs.Packet.{IsSpelled, packet_of, packet_view};
 ghost use Rattle.aud_sio.specs.Written.{packet_text, written_count, written_id, written_namespace};
 ghost use Rattle.aud_sio.specs.declared.fault.SioFault.TheVariants.{Memory};

@@ -1,7 +1,7 @@
 //! Lists of texts as members of a JSON object.
 ghost use Rattle.std.specs.Prelude.{◌≡◌, Some, IfOk, map as list_map, string_bytes};
 ghost use Rattle.serde_json.specs.Data.{string, put};
-ghost use Rattle.serde_json.specs.View.{view, items_view, members_view};
+ghost use Rattle.serde_json.specs.View.{items_view, members_view};
 ghost use Rattle.aud_reader.specs.Fields.{decoded};
 ghost use Rattle.aud_writer.specs.Written.{encoded, text_items};
 ghost use Rattle.aud_writer.specs.BytesBack.{DecodeBack, put_unless_empty};

@@ -1,5 +1,4 @@
 //! Simulated clusters that run written schedules.
-ghost use Rattle.std.specs.Prelude.{◌≤◌};
 
 use crate::case::{AUDIT, cut, run_over};
 use crate::faults::{FAULTS, NOT_POSSIBLE};

@@ -1,5 +1,5 @@
 //! The offsets of the stream's entries, while these are read: each stands there once.
-ghost use Rattle.std.specs.Prelude.{◌≡◌, ◌∷◌, ◌++◌, [], List, ℕ, map, not, IfOk, MatchResult};
+ghost use Rattle.std.specs.Prelude.{◌∷◌, ◌++◌, [], List, ℕ, map, not, IfOk, MatchResult};
 ghost use Rattle.std.specs.List.{list_any};
 ghost use Rattle.aud_base.specs.Steps.{guard};
 ghost use Rattle.aud_tap.specs.Forms.{is_text};

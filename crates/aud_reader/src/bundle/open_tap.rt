@@ -1,11 +1,9 @@
 //! A tap, while it is read.
 ghost use Rattle.std.specs.Prelude.{◌≡◌, ◌++◌, List, ℕ, IfOk, OnOk};
-ghost use Rattle.std.specs.List.{filter_map};
 ghost use Rattle.aud_json.specs.View.{view};
 ghost use Rattle.aud_reader.specs.Private.Changes.{Becomes};
 ghost use Rattle.aud_tap.specs.Forms.{is_text};
-ghost use Rattle.aud_tap.specs.RecordFields.{pid_of};
-ghost use Rattle.aud_reader.specs.Bundle.{no_records, pids_in, with_node_record, with_tap_record};
+ghost use Rattle.aud_reader.specs.Bundle.{no_records, pids_in, with_tap_record};
 ghost use Rattle.aud_reader.specs.Private.NewRecord.{with_new_record};
 ghost use Rattle.aud_reader.specs.Private.Packed.{rec_of};
 ghost use Rattle.aud_reader.specs.Private.Texts.{HasPids};

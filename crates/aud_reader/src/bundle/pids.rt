@@ -1,5 +1,5 @@
 //! The pids of the node records of a bundle.
-ghost use Rattle.std.specs.Prelude.{◌≡◌, ◌∷◌, ◌++◌, [], List, ℕ, OnOk, option_to_list};
+ghost use Rattle.std.specs.Prelude.{◌∷◌, ◌++◌, [], List, ℕ, OnOk, option_to_list};
 ghost use Rattle.aud_reader.specs.Steps.{Gives};
 ghost use Rattle.aud_tap.specs.RecordFields.{pid_of};
 ghost use Rattle.aud_reader.specs.Bundle.{pids_fit};
