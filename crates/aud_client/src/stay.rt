@@ -168,7 +168,10 @@ impl<'a> Stay<'a> {
     /// The frame, if there is one, comes after the others. The flag says whether it isn't its entry.
     fn keep(&mut self, frame: Option<Frame<'a>>, altered: bool) -> Result<Part, AllocError>
         ensures stay { OnOk result (self.new
-            ≡ record self.old { frames = self.old.frames ++ cons_option frame.entry []; altered = self.old.altered || altered }) }
+            ≡ record self.old {
+              frames = self.old.frames ++ cons_option frame.entry [];
+              altered = self.old.altered || altered;
+            }) }
         ensures part { IfOk result (λ is. is ≡ frame_part frame.entry) }
     {
         self.altered = self.altered || altered;

@@ -91,7 +91,8 @@ pub(crate) fn push_name(
     names: Names,
     name: &str,
 ) -> Result<(), AllocError>
-    ensures { OnOk result (string_bytes out.new ≡ string_bytes out.old ++ name_words names name.now) }
+    ensures { OnOk result (string_bytes out.new
+        ≡ string_bytes out.old ++ name_words names name.now) }
 {
     let characters = chars_of(alloc, name)?;
     let characters = characters.as_slice();

@@ -73,7 +73,8 @@ impl<'a> SpanBuilder<'a> {
     /// The room that a node's record joins or leaves is held from now on or no longer, if the record is of the session
     /// with this pid; any other record changes nothing.
     pub fn follow(&mut self, pid: &str, rec: &'a NodeRec) -> Result<(), AllocError>
-        ensures changed { OnOk result (self.new ≡ option_map (changed_by pid.now rec.now) self.old) }
+        ensures changed { OnOk result (self.new
+            ≡ option_map (changed_by pid.now rec.now) self.old) }
         ensures out_of_memory { OnErr result (self.new ≡ None) }
     {
         match rec {
