@@ -1,24 +1,12 @@
 //! The causes.
 ghost use Rattle.std.specs.Prelude.{◌≡◌, ◌++◌, OnOk, string_bytes};
-ghost use Rattle.aud_explanation.specs.CauseText.{cause_text, causes_text, each_text, has_own, is_sole, lines_words, none_holds, none_text, of_words, stands_words};
+ghost use Rattle.aud_explanation.specs.CauseText.{causes_text, each_text, has_own, is_sole, of_words};
 
 use crate::cause::{Cause, CauseOf, CauseState};
 use crate::long::{first_shown, last_shown, left_out, push_more};
 use crate::text::page::push_line;
 use crate::text::span::push_lines;
 use std::alloc::{AllocError, Global};
-
-/// Puts the lines that say so at the end.
-fn push_where(line: &mut String, lines: &[u64]) -> Result<(), AllocError>
-    ensures { OnOk result (string_bytes line.new ≡ string_bytes line.old ++ lines_words lines.now) }
-{
-    if lines.is_empty() {
-        Ok(())
-    } else {
-        line.push_str(", ")?;
-        push_lines(line, lines)
-    }
-}
 
 /// Puts the ask at the end, of which a cause of a refused recovery is.
 fn push_of(line: &mut String, of: CauseOf) -> Result<(), AllocError>
@@ -29,37 +17,6 @@ fn push_of(line: &mut String, of: CauseOf) -> Result<(), AllocError>
         CauseOf::Refused { line: None } => line.push_str(", of the ask"),
         CauseOf::Refused { line: Some(ask) } => write!(line, ", of the ask on line {ask}"),
     }
-}
-
-/// How a cause stands, in words.
-fn stands_words(sole: bool, of: CauseOf, state: CauseState) -> &'static str
-    ensures { result.now ≡ stands_words sole of state }
-{
-    match (sole, of, state) {
-        (true, CauseOf::Fault, CauseState::Fits) => "the one cause known",
-        _ => state.word(),
-    }
-}
-
-/// Puts the lines of a cause at the end: what happened, and what to do.
-fn push_cause(
-    alloc: Global,
-    out: &mut String,
-    sole: bool,
-    cause: &Cause<'_>,
-) -> Result<(), AllocError>
-    ensures { OnOk result (string_bytes out.new
-        ≡ string_bytes out.old ++ cause_text sole cause.now) }
-{
-    let (id, why, todo) = (cause.id, cause.why, cause.todo);
-    let stands = stands_words(sole, cause.of, cause.state);
-    let mut line = format!(in alloc; "cause {id} ({stands}")?;
-    push_where(&mut line, cause.lines)?;
-    push_of(&mut line, cause.of)?;
-    write!(&mut line, "): {why}")?;
-    push_line(out, line.as_str())?;
-    let line = format!(in alloc; "do: {todo}")?;
-    push_line(out, line.as_str())
 }
 
 /// Whether one of the causes is of the fault.
@@ -88,26 +45,7 @@ fn is_sole(refuted: &[&'static str], causes: &[Cause<'_>]) -> bool
     }
 }
 
-/// Puts at the end that no known cause holds, where causes of the fault are known, of which these were refuted, and none
-/// of those that hold is of the fault.
-fn push_none(
-    out: &mut String,
-    refuted: &[&'static str],
-    causes: &[Cause<'_>],
-) -> Result<(), AllocError>
-    ensures { OnOk result (string_bytes out.new
-        ≡ string_bytes out.old ++ none_text (none_holds refuted.now causes.now)) }
-{
-    if refuted.is_empty() {
-        return Ok(());
-    }
-    if has_own(causes) {
-        return Ok(());
-    }
-    out.push_str("no known cause of the fault holds\n")
-}
-
-/// Puts these causes at the end.
+/// Puts the lines of these causes at the end, of each what happened, and what to do.
 fn push_each(
     alloc: Global,
     out: &mut String,
@@ -118,13 +56,27 @@ fn push_each(
         ≡ string_bytes out.old ++ each_text sole causes.now) }
 {
     for cause in causes {
-        push_cause(alloc, out, sole, cause)?;
+        let (id, why, todo) = (cause.id, cause.why, cause.todo);
+        let stands = match (sole, cause.of, cause.state) {
+            (true, CauseOf::Fault, CauseState::Fits) => "the one cause known",
+            _ => cause.state.word(),
+        };
+        let mut line = format!(in alloc; "cause {id} ({stands}")?;
+        if !cause.lines.is_empty() {
+            line.push_str(", ")?;
+            push_lines(&mut line, cause.lines)?;
+        }
+        push_of(&mut line, cause.of)?;
+        write!(&mut line, "): {why}")?;
+        push_line(out, line.as_str())?;
+        let line = format!(in alloc; "do: {todo}")?;
+        push_line(out, line.as_str())?;
     }
     Ok(())
 }
 
-/// Puts the causes at the end, of more than 200 the first 100 and the last 100, and before them that none of the fault
-/// holds, where it is so.
+/// Puts the causes at the end, of more than 200 the first 100 and the last 100. Before them stands that none of the fault
+/// holds, where causes of it are known, of which these were refuted, and none of those that hold is of it.
 pub(crate) fn push_causes(
     alloc: Global,
     out: &mut String,
@@ -134,7 +86,9 @@ pub(crate) fn push_causes(
     ensures { OnOk result (string_bytes out.new
         ≡ string_bytes out.old ++ causes_text refuted.now causes.now) }
 {
-    push_none(out, refuted, causes)?;
+    if !refuted.is_empty() && !has_own(causes) {
+        out.push_str("no known cause of the fault holds\n")?;
+    }
     let sole = is_sole(refuted, causes);
     push_each(alloc, out, sole, first_shown(causes))?;
     push_more(out, left_out(causes))?;
