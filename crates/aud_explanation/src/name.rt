@@ -1,7 +1,7 @@
 //! Names that others chose, as they stand in a line.
 ghost use Rattle.std.specs.Prelude.{◌≡◌, ◌++◌, IfOk, OnOk, chars, string_bytes};
 ghost use Rattle.std.specs.Option.{option_copied};
-ghost use Rattle.aud_explanation.specs.Named.{NamesApart, cut_name, in_quotes, is_of_plain, is_plain_name, name_words, named_words, quoted, whole_name};
+ghost use Rattle.aud_explanation.specs.Named.{NamesApart, is_plain_name, name_words, named_words, quoted, whole_name};
 
 use crate::escape::is_hidden;
 use crate::long::{first_shown, last_shown, left_out};
@@ -16,64 +16,35 @@ pub enum Names {
     Short,
 }
 
-/// Whether the character may stand in a name without quotes.
-fn is_of_plain(c: char) -> bool
-    ensures { result ≡ is_of_plain c }
-{
-    if c.is_whitespace() || c.is_control() {
-        return false;
-    }
-    if is_hidden(c) {
-        return false;
-    }
-    !matches!(c, '"' | ',' | '\\')
-}
-
-/// Whether a name of these characters stands without quotes.
+/// Whether a name of these characters stands without quotes: it has some, and none of them is white space, a sign, or
+/// printed as an escape.
 fn is_plain_name(characters: &[char]) -> bool
     ensures { result ≡ is_plain_name characters.now }
 {
-    if characters.is_empty() {
-        return false;
-    }
     for c in characters {
-        if !is_of_plain(*c) {
+        if c.is_whitespace() || c.is_control() || is_hidden(*c) {
+            return false;
+        }
+        if matches!(*c, '"' | ',' | '\\') {
             return false;
         }
     }
-    true
+    !characters.is_empty()
 }
 
-/// Puts a character between quotes at the end.
-fn push_in_quotes(out: &mut String, c: char) -> Result<(), AllocError>
-    ensures { OnOk result (string_bytes out.new ≡ string_bytes out.old ++ in_quotes c) }
-{
-    if c == '"' {
-        out.push_str("\"\"")
-    } else {
-        out.push(c)
-    }
-}
-
-/// Puts the characters at the end between quotes.
+/// Puts the characters at the end between quotes, a quote twice.
 fn push_quoted(out: &mut String, characters: &[char]) -> Result<(), AllocError>
     ensures { OnOk result (string_bytes out.new ≡ string_bytes out.old ++ quoted characters.now) }
 {
     out.push_str("\"")?;
     for c in characters {
-        push_in_quotes(out, *c)?;
+        if *c == '"' {
+            out.push_str("\"\"")?;
+        } else {
+            out.push(*c)?;
+        }
     }
     out.push_str("\"")
-}
-
-/// Puts the first and the last of long characters at the end.
-fn push_cut(out: &mut String, characters: &[char]) -> Result<(), AllocError>
-    ensures { OnOk result (string_bytes out.new ≡ string_bytes out.old ++ cut_name characters.now) }
-{
-    push_quoted(out, first_shown(characters))?;
-    let left = left_out(characters);
-    write!(out, " .. {left} more .. ")?;
-    push_quoted(out, last_shown(characters))
 }
 
 fn chars_of(alloc: Global, name: &str) -> Result<Vec<char>, AllocError>
@@ -97,7 +68,12 @@ pub(crate) fn push_name(
     let characters = chars_of(alloc, name)?;
     let characters = characters.as_slice();
     match names {
-        Names::Short if left_out(characters) > 0 => push_cut(out, characters),
+        Names::Short if left_out(characters) > 0 => {
+            let left = left_out(characters);
+            push_quoted(out, first_shown(characters))?;
+            write!(out, " .. {left} more .. ")?;
+            push_quoted(out, last_shown(characters))
+        }
         _ if is_plain_name(characters) => out.push_str(name),
         _ => push_quoted(out, characters),
     }
