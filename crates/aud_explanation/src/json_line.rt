@@ -1,7 +1,7 @@
 //! The JSON of an explanation.
 ghost use Rattle.std.specs.Prelude.{◌≡◌, IfOk, OnOk, string_bytes};
 ghost use Rattle.serde_json.specs.View.{view, members_view};
-ghost use Rattle.aud_explanation.specs.Json.{explanation_data, explanation_json, head_members, shown_members, told_members, with_causes, with_events, with_refuted};
+ghost use Rattle.aud_explanation.specs.Json.{explanation_data, explanation_json, shown_members, told_members};
 
 mod account;
 mod also;
@@ -14,9 +14,7 @@ mod turn;
 pub(crate) mod value;
 mod verdict;
 
-use crate::cause::Cause;
 use crate::escape::push_json_printed;
-use crate::event::ClientEvent;
 use crate::explanation::{Explanation, class_of_explained};
 use crate::json_line::account::{put_account, put_client};
 use crate::json_line::also::put_also;
@@ -26,21 +24,6 @@ use crate::json_line::verdict::put_verdict;
 use aud_input::InputFile;
 use serde_json::{Map, Value, put};
 use std::alloc::{AllocError, Global};
-
-/// Puts the verdict, the client, and what it received.
-fn put_head(
-    alloc: Global,
-    members: &mut Map<String, Value>,
-    explanation: &Explanation<'_, '_, '_>,
-) -> Result<(), AllocError>
-    ensures { OnOk result (members_view members.new.entries
-        ≡ head_members explanation.now (members_view members.old.entries)) }
-{
-    let class = class_of_explained(explanation);
-    put_verdict(alloc, members, explanation.pid, explanation.verdict, class)?;
-    put_client(alloc, members, explanation.client)?;
-    put_account(alloc, members, explanation.verdict, explanation.account)
-}
 
 /// Puts the turns, the evidence, and the other entries and sessions.
 fn put_found(
@@ -65,48 +48,6 @@ fn put_found(
     )
 }
 
-/// Puts what happened to the client.
-#[tactic(auto, unfolding(crate::specs::Json::with_events))]
-fn put_events(
-    alloc: Global,
-    members: &mut Map<String, Value>,
-    events: &[ClientEvent],
-) -> Result<(), AllocError>
-    ensures { OnOk result (members_view members.new.entries
-        ≡ with_events events.now (members_view members.old.entries)) }
-{
-    let names = ("events", "events_left");
-    put_shown(alloc, members, &[], "", names, events)
-}
-
-/// Puts the causes.
-#[tactic(auto, unfolding(crate::specs::Json::with_causes))]
-fn put_causes(
-    alloc: Global,
-    members: &mut Map<String, Value>,
-    causes: &[Cause<'_>],
-) -> Result<(), AllocError>
-    ensures { OnOk result (members_view members.new.entries
-        ≡ with_causes causes.now (members_view members.old.entries)) }
-{
-    let names = ("causes", "causes_left");
-    put_shown(alloc, members, &[], "", names, causes)
-}
-
-/// Puts the names of the causes that were refuted.
-#[tactic(auto, unfolding(crate::specs::Json::with_refuted))]
-fn put_refuted(
-    alloc: Global,
-    members: &mut Map<String, Value>,
-    refuted: &[&'static str],
-) -> Result<(), AllocError>
-    ensures { OnOk result (members_view members.new.entries
-        ≡ with_refuted refuted.now (members_view members.old.entries)) }
-{
-    let values = texts(alloc, refuted)?;
-    put(members, alloc, "refuted", Value::Array(values))
-}
-
 /// Puts the refused recoveries, what happened to the client, the causes, and the names of those that were refuted.
 fn put_told(
     alloc: Global,
@@ -120,9 +61,12 @@ fn put_told(
     let pid = explanation.pid;
     let names = ("refused", "refused_left");
     put_shown(alloc, members, files, pid, names, explanation.refused)?;
-    put_events(alloc, members, explanation.events)?;
-    put_causes(alloc, members, explanation.causes)?;
-    put_refuted(alloc, members, explanation.refuted)
+    let names = ("events", "events_left");
+    put_shown(alloc, members, files, pid, names, explanation.events)?;
+    let names = ("causes", "causes_left");
+    put_shown(alloc, members, files, pid, names, explanation.causes)?;
+    let refuted = Value::Array(texts(alloc, explanation.refuted)?);
+    put(members, alloc, "refuted", refuted)
 }
 
 fn explanation_value(
@@ -132,8 +76,12 @@ fn explanation_value(
 ) -> Result<Value, AllocError>
     ensures { IfOk result (λ v. view v ≡ explanation_data files.now explanation.now) }
 {
+    let (pid, verdict) = (explanation.pid, explanation.verdict);
+    let class = class_of_explained(explanation);
     let mut members = Map::new(alloc);
-    put_head(alloc, &mut members, explanation)?;
+    put_verdict(alloc, &mut members, pid, verdict, class)?;
+    put_client(alloc, &mut members, explanation.client)?;
+    put_account(alloc, &mut members, verdict, explanation.account)?;
     put_found(alloc, &mut members, files, explanation)?;
     put_told(alloc, &mut members, files, explanation)?;
     Ok(Value::Object(members))
