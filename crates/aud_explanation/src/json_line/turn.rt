@@ -22,6 +22,14 @@ impl<'r> Told for TurnShown<'r> {
             TurnEnd::Log { line, high } => ("log", Some(line), Some(high)),
             TurnEnd::Missing => ("missing", None, None),
         };
+        let lines = match last {
+            Some(last) => numbers(alloc, &[self.begin_line, last])?,
+            None => numbers(alloc, &[self.begin_line])?,
+        };
+        let took = match self.took {
+            Some((from, to)) => Value::Array(numbers(alloc, &[from, to])?),
+            None => Value::Null,
+        };
         let texts = [
             ("begin", Some(begin)),
             ("end", Some(end)),
@@ -33,14 +41,6 @@ impl<'r> Told for TurnShown<'r> {
             ("low", Some(self.low)),
             ("turn", Some(turn)),
         ];
-        let lines = match last {
-            Some(last) => numbers(alloc, &[self.begin_line, last])?,
-            None => numbers(alloc, &[self.begin_line])?,
-        };
-        let took = match self.took {
-            Some((from, to)) => Value::Array(numbers(alloc, &[from, to])?),
-            None => Value::Null,
-        };
         let mut members = Map::new(alloc);
         put_texts(alloc, &mut members, &texts)?;
         put_numbers(alloc, &mut members, &numbers)?;
