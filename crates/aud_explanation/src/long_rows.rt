@@ -1,8 +1,8 @@
 //! The rows of long evidence.
 ghost use Rattle.std.specs.Prelude.{◌≡◌, IfOk, find};
-ghost use Rattle.aud_explanation.specs.LongRows.{is_earlier_row, is_fault_row, kept_rows, rows_left, rows_shown};
+ghost use Rattle.aud_explanation.specs.LongRows.{is_earlier_row, is_fault_row, kept_rows, rows_left};
 
-use crate::long::{first_shown, last_shown, left_out};
+use crate::long::{left_out};
 use aud_rows::{Role, Row};
 use std::alloc::{AllocError, Global};
 
@@ -54,21 +54,4 @@ pub(crate) fn rows_left(rows: &[Row<'_>], kept: &[Row<'_>]) -> usize
     ensures { result ≡ rows_left rows.now }
 {
     left_out(rows).saturating_sub(kept.len())
-}
-
-/// All that are shown, where these are kept.
-#[tactic(auto, unfolding(crate::specs::LongRows::rows_shown))]
-pub(crate) fn rows_shown<'r>(
-    alloc: Global,
-    rows: &[Row<'r>],
-    kept: &[Row<'r>],
-) -> Result<Vec<Row<'r>>, AllocError>
-    requires { kept.now ≡ kept_rows rows.now }
-    ensures { IfOk result (λ shown. shown.items ≡ rows_shown rows.now) }
-{
-    let mut shown = Vec::new(alloc);
-    shown.extend_from_slice(first_shown(rows))?;
-    shown.extend_from_slice(kept)?;
-    shown.extend_from_slice(last_shown(rows))?;
-    Ok(shown)
 }
