@@ -10,24 +10,18 @@ use std::alloc::{AllocError, Global};
 fn first_fault<'r>(rows: &[Row<'r>]) -> Option<Row<'r>>
     ensures { result ≡ find is_fault_row rows.now }
 {
-    for row in rows {
-        if matches!(row.role, Role::Fault) {
-            return Some(*row);
-        }
-    }
-    None
+    rows.iter()
+        .copied()
+        .find(|row| matches!(row.role, Role::Fault))
 }
 
 /// The first of the rows whose record the fault contradicts.
 fn first_earlier<'r>(rows: &[Row<'r>]) -> Option<Row<'r>>
     ensures { result ≡ find is_earlier_row rows.now }
 {
-    for row in rows {
-        if matches!(row.role, Role::Earlier) {
-            return Some(*row);
-        }
-    }
-    None
+    rows.iter()
+        .copied()
+        .find(|row| matches!(row.role, Role::Earlier))
 }
 
 /// Those of the rows between the first 100 and the last 100 that are shown all the same: two at most.
