@@ -2,7 +2,7 @@
 ghost use Rattle.std.specs.Prelude.{◌≡◌, IfOk, find};
 ghost use Rattle.aud_explanation.specs.LongRows.{is_earlier_row, is_fault_row, kept_rows, rows_left};
 
-use crate::long::{left_out};
+use crate::long::left_out;
 use aud_rows::{Role, Row};
 use std::alloc::{AllocError, Global};
 
