@@ -1,7 +1,7 @@
 //! Names that others chose, as they stand in a line.
 ghost use Rattle.std.specs.Prelude.{◌≡◌, ◌++◌, IfOk, OnOk, chars, string_bytes};
 ghost use Rattle.std.specs.Option.{option_copied};
-ghost use Rattle.aud_explanation.specs.Named.{NamesApart, is_plain_name, name_words, named_words, quoted, whole_name};
+ghost use Rattle.aud_explanation.specs.Named.{NamesApart, in_quotes, is_plain_name, name_words, named_words, quoted, whole_name};
 
 use crate::escape::is_hidden;
 use crate::long::{first_shown, last_shown, left_out};
@@ -32,17 +32,24 @@ fn is_plain_name(characters: &[char]) -> bool
     !characters.is_empty()
 }
 
-/// Puts the characters at the end between quotes, a quote twice.
+/// Puts a character between quotes at the end.
+fn push_in_quotes(out: &mut String, c: char) -> Result<(), AllocError>
+    ensures { OnOk result (string_bytes out.new ≡ string_bytes out.old ++ in_quotes c) }
+{
+    if c == '"' {
+        out.push_str("\"\"")
+    } else {
+        out.push(c)
+    }
+}
+
+/// Puts the characters at the end between quotes.
 fn push_quoted(out: &mut String, characters: &[char]) -> Result<(), AllocError>
     ensures { OnOk result (string_bytes out.new ≡ string_bytes out.old ++ quoted characters.now) }
 {
     out.push_str("\"")?;
     for c in characters {
-        if *c == '"' {
-            out.push_str("\"\"")?;
-        } else {
-            out.push(*c)?;
-        }
+        push_in_quotes(out, *c)?;
     }
     out.push_str("\"")
 }

@@ -1,8 +1,8 @@
 //! A record as a line of the bundle has it, where it is asked for by its number.
-ghost use Rattle.std.specs.Prelude.{◌≡◌, false, IfOk, string_bytes};
+ghost use Rattle.std.specs.Prelude.{◌≡◌, ◌++◌, false, IfOk, OnOk, string_bytes};
 ghost use Rattle.serde_json.specs.View.{view};
 ghost use Rattle.serde_json.specs.Written.{has_float};
-ghost use Rattle.aud_explanation.specs.WholeRecord.{whole_record_data, whole_record_json, whole_record_text};
+ghost use Rattle.aud_explanation.specs.WholeRecord.{head_words, whole_record_data, whole_record_json, whole_record_text};
 
 use crate::escape::{push_json_printed, push_printed};
 use crate::json_line::place::put_place;
@@ -11,6 +11,28 @@ use crate::text::push_place;
 use aud_input::{InputFile, place_told};
 use serde_json::{Map, Value, put};
 use std::alloc::{AllocError, Global};
+
+/// Puts the tap, the record's number, and its line, where it is known, at the end.
+fn push_head(
+    alloc: Global,
+    out: &mut String,
+    files: &[InputFile],
+    tap: &str,
+    number: u64,
+    line: Option<u64>,
+) -> Result<(), AllocError>
+    ensures { OnOk result (string_bytes out.new
+        ≡ string_bytes out.old ++ head_words files.now tap.now number line) }
+{
+    write!(out, "{tap} {number}")?;
+    match line {
+        Some(line) => {
+            write!(out, "  line {line}")?;
+            push_place(alloc, out, files, line)
+        }
+        None => Ok(()),
+    }
+}
 
 /// The record with this number of the tap of this name, its line where that is known, and its JSON, as a line of text
 /// of any number of columns: `a 3  line 12  {"k":"take","off":"1-0"}`. Names stand there as
@@ -28,11 +50,8 @@ pub fn whole_record_text(
     ensures { has_float (view json.now) ≡ false → IfOk result (λ text. string_bytes text
         ≡ whole_record_text files.now tap.now number line (view json.now)) }
 {
-    let mut head = format!(in alloc; "{tap} {number}")?;
-    if let Some(line) = line {
-        write!(&mut head, "  line {line}")?;
-        push_place(alloc, &mut head, files, line)?;
-    }
+    let mut head = String::new(alloc);
+    push_head(alloc, &mut head, files, tap, number, line)?;
     let json = json.to_string(alloc)?;
     let mut out = String::new(alloc);
     push_printed(&mut out, head.as_str())?;

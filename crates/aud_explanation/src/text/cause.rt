@@ -1,12 +1,24 @@
 //! The causes.
 ghost use Rattle.std.specs.Prelude.{◌≡◌, ◌++◌, OnOk, string_bytes};
-ghost use Rattle.aud_explanation.specs.CauseText.{causes_text, each_text, has_own, is_sole, of_words};
+ghost use Rattle.aud_explanation.specs.CauseText.{causes_text, each_text, has_own, is_sole, lines_words, none_holds, none_text, of_words};
 
 use crate::cause::{Cause, CauseOf, CauseState};
 use crate::long::{first_shown, last_shown, left_out, push_more};
 use crate::text::page::push_line;
 use crate::text::span::push_lines;
 use std::alloc::{AllocError, Global};
+
+/// Puts the lines that say so at the end.
+fn push_where(line: &mut String, lines: &[u64]) -> Result<(), AllocError>
+    ensures { OnOk result (string_bytes line.new ≡ string_bytes line.old ++ lines_words lines.now) }
+{
+    if lines.is_empty() {
+        Ok(())
+    } else {
+        line.push_str(", ")?;
+        push_lines(line, lines)
+    }
+}
 
 /// Puts the ask at the end, of which a cause of a refused recovery is.
 fn push_of(line: &mut String, of: CauseOf) -> Result<(), AllocError>
@@ -42,6 +54,25 @@ fn is_sole(refuted: &[&'static str], causes: &[Cause<'_>]) -> bool
     }
 }
 
+/// Puts at the end that no known cause holds, where causes of the fault are known, of which these were refuted, and none
+/// of those that hold is of the fault.
+fn push_none(
+    out: &mut String,
+    refuted: &[&'static str],
+    causes: &[Cause<'_>],
+) -> Result<(), AllocError>
+    ensures { OnOk result (string_bytes out.new
+        ≡ string_bytes out.old ++ none_text (none_holds refuted.now causes.now)) }
+{
+    if refuted.is_empty() {
+        return Ok(());
+    }
+    if has_own(causes) {
+        return Ok(());
+    }
+    out.push_str("no known cause of the fault holds\n")
+}
+
 /// Puts the lines of these causes at the end, of each what happened, and what to do.
 fn push_each(
     alloc: Global,
@@ -59,10 +90,7 @@ fn push_each(
             _ => cause.state.word(),
         };
         let mut line = format!(in alloc; "cause {id} ({stands}")?;
-        if !cause.lines.is_empty() {
-            line.push_str(", ")?;
-            push_lines(&mut line, cause.lines)?;
-        }
+        push_where(&mut line, cause.lines)?;
         push_of(&mut line, cause.of)?;
         write!(&mut line, "): {why}")?;
         push_line(out, line.as_str())?;
@@ -72,8 +100,8 @@ fn push_each(
     Ok(())
 }
 
-/// Puts the causes at the end, of more than 200 the first 100 and the last 100. Before them stands that none of the fault
-/// holds, where causes of it are known, of which these were refuted, and none of those that hold is of it.
+/// Puts the causes at the end, of more than 200 the first 100 and the last 100, and before them that none of the fault
+/// holds, where it is so.
 pub(crate) fn push_causes(
     alloc: Global,
     out: &mut String,
@@ -83,9 +111,7 @@ pub(crate) fn push_causes(
     ensures { OnOk result (string_bytes out.new
         ≡ string_bytes out.old ++ causes_text refuted.now causes.now) }
 {
-    if !refuted.is_empty() && !has_own(causes) {
-        out.push_str("no known cause of the fault holds\n")?;
-    }
+    push_none(out, refuted, causes)?;
     let sole = is_sole(refuted, causes);
     push_each(alloc, out, sole, first_shown(causes))?;
     push_more(out, left_out(causes))?;

@@ -1,6 +1,6 @@
 //! The line of the client.
 ghost use Rattle.std.specs.Prelude.{◌≡◌, ◌++◌, OnOk, string_bytes};
-ghost use Rattle.aud_explanation.specs.Client.{account_words, client_text};
+ghost use Rattle.aud_explanation.specs.Client.{account_words, client_text, client_words};
 
 use crate::client::{Account, Client};
 use crate::name::{Names, push_name};
@@ -9,6 +9,26 @@ use crate::text::page::push_line;
 use crate::text::span::push_known;
 use aud_verdict::Verdict;
 use std::alloc::{AllocError, Global};
+
+/// Puts the words for the client at the end: its tap, the namespace, and the connection, where there is one.
+fn push_words(
+    alloc: Global,
+    line: &mut String,
+    client: Option<Client<'_>>,
+) -> Result<(), AllocError>
+    ensures { OnOk result (string_bytes line.new
+        ≡ string_bytes line.old ++ client_words client.entry) }
+{
+    match client {
+        Some(client) => {
+            let tap = client.tap;
+            write!(line, "client {tap}, namespace ")?;
+            push_name(alloc, line, Names::Short, client.nsp)?;
+            push_known(line, ", connection ", client.conn)
+        }
+        None => write!(line, "no one client"),
+    }
+}
 
 /// Puts what was received of what was due at the end, where the delivery was judged.
 fn push_account(
@@ -43,15 +63,7 @@ pub(crate) fn push_client(
         ≡ string_bytes out.old ++ client_text verdict.now client.entry turns account) }
 {
     let mut line = String::new(alloc);
-    match client {
-        Some(client) => {
-            let tap = client.tap;
-            write!(&mut line, "client {tap}, namespace ")?;
-            push_name(alloc, &mut line, Names::Short, client.nsp)?;
-            push_known(&mut line, ", connection ", client.conn)?;
-        }
-        None => line.push_str("no one client")?,
-    }
+    push_words(alloc, &mut line, client)?;
     write!(&mut line, ", turns {turns}")?;
     push_account(&mut line, verdict, account)?;
     push_line(out, line.as_str())

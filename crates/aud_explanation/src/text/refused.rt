@@ -1,7 +1,7 @@
 //! The recoveries that were refused.
 ghost use Rattle.std.specs.Prelude.{◌≡◌, ◌++◌, OnOk, flat_map, string_bytes};
 ghost use Rattle.std.specs.Option.{option_copied};
-ghost use Rattle.aud_explanation.specs.RefusedText.{all_missed_text, all_refused_text, each_refused_text, head_text, missed_text};
+ghost use Rattle.aud_explanation.specs.RefusedText.{all_missed_text, all_refused_text, count_words, each_refused_text, head_text, missed_text, reply_text, unexplained_text};
 
 use crate::long::{first_shown, last_shown, left_out, push_more};
 use crate::name::{Names, push_name, push_named};
@@ -9,8 +9,23 @@ use crate::refused::{Missed, RefusedRecovery};
 use crate::text::evidence::push_row;
 use crate::text::page::push_line;
 use aud_input::InputFile;
+use aud_rows::Row;
 use aud_verdict::Verdict;
 use std::alloc::{AllocError, Global};
+
+/// Puts how many entries a client missed at the end.
+fn push_count(line: &mut String, missed: Option<&[Missed<'_>]>) -> Result<(), AllocError>
+    ensures { OnOk result (string_bytes line.new
+        ≡ string_bytes line.old ++ count_words (option_copied missed.entry)) }
+{
+    match missed {
+        Some(entries) => {
+            let count = entries.len();
+            write!(line, ", missed {count}")
+        }
+        None => write!(line, ", missed: not known"),
+    }
+}
 
 /// Puts the line of a refused recovery at the end: what the client got instead, and how many entries it missed.
 #[tactic(auto, unfolding(crate::specs::RefusedText::head_text))]
@@ -25,14 +40,27 @@ fn push_head(
     line.push_str("refused recovery: ")?;
     let (got, none) = ("got session ", "got no session");
     push_named(alloc, &mut line, Names::Short, got, refused.instead, none)?;
-    match refused.missed {
-        Some(entries) => {
-            let count = entries.len();
-            write!(&mut line, ", missed {count}")?;
-        }
-        None => line.push_str(", missed: not known")?,
-    }
+    push_count(&mut line, refused.missed)?;
     push_line(out, line.as_str())
+}
+
+/// Puts the row of the reply at the end, where there is one.
+fn push_reply(
+    alloc: Global,
+    out: &mut String,
+    files: &[InputFile],
+    pid: &str,
+    verdict: &Verdict,
+    width: usize,
+    reply: Option<Row<'_>>,
+) -> Result<(), AllocError>
+    ensures { OnOk result (string_bytes out.new
+        ≡ string_bytes out.old ++ reply_text files.now pid.now verdict.now width reply.entry) }
+{
+    match reply {
+        Some(reply) => push_row(alloc, out, files, pid, verdict, width, &reply),
+        None => Ok(()),
+    }
 }
 
 /// Puts a line for each of these entries that were missed at the end.
@@ -69,6 +97,18 @@ fn push_all_missed(
     }
 }
 
+/// Puts at the end that no known cause of the refusal holds, where none is told.
+fn push_unexplained(out: &mut String, has_cause: bool) -> Result<(), AllocError>
+    ensures { OnOk result (string_bytes out.new
+        ≡ string_bytes out.old ++ unexplained_text has_cause) }
+{
+    if has_cause {
+        Ok(())
+    } else {
+        out.push_str("no known cause of the refusal holds\n")
+    }
+}
+
 /// Puts these refused recoveries of the session with this pid at the end: of each what the client got instead, the ask and
 /// the reply, what it missed, and that no known cause holds, where none is told.
 fn push_each(
@@ -87,13 +127,9 @@ fn push_each(
         let width = refused.ask.tap.len();
         push_head(alloc, out, refused)?;
         push_row(alloc, out, files, pid, verdict, width, &refused.ask)?;
-        if let Some(reply) = refused.reply {
-            push_row(alloc, out, files, pid, verdict, width, &reply)?;
-        }
+        push_reply(alloc, out, files, pid, verdict, width, refused.reply)?;
         push_all_missed(alloc, out, refused.missed)?;
-        if !refused.has_cause {
-            out.push_str("no known cause of the refusal holds\n")?;
-        }
+        push_unexplained(out, refused.has_cause)?;
     }
     Ok(())
 }

@@ -1,12 +1,26 @@
 //! The rows of the turns.
 ghost use Rattle.std.specs.Prelude.{◌≡◌, ◌++◌, OnOk, string_bytes};
-ghost use Rattle.aud_explanation.specs.TurnText.{end_words, rows_text, turns_text};
+ghost use Rattle.aud_explanation.specs.TurnText.{end_words, rows_text, took_words, turns_text};
 
 use crate::long::{first_shown, last_shown, left_out, push_more};
 use crate::text::page::{push_left, push_line};
 use crate::text::span::push_span;
 use crate::turn::{TurnBegin, TurnEnd, TurnShown};
 use std::alloc::{AllocError, Global};
+
+/// Puts what a node took in a turn at the end.
+fn push_took(line: &mut String, took: Option<(u64, u64)>) -> Result<(), AllocError>
+    ensures { OnOk result (string_bytes line.new ≡ string_bytes line.old ++ took_words took) }
+{
+    match took {
+        Some((from, to)) => {
+            line.push_str(" take ")?;
+            push_span(line, from, to)?;
+            line.push_str(" ==")
+        }
+        None => Ok(()),
+    }
+}
 
 /// Puts the line on which a turn ends at the end, how it does, and the cursor there.
 fn push_end(line: &mut String, end: TurnEnd) -> Result<(), AllocError>
@@ -39,11 +53,7 @@ fn push_rows(
             TurnBegin::Back => "back",
         };
         write!(&mut line, "  {at} {begin}, cursor {low} ==")?;
-        if let Some((from, to)) = turn.took {
-            line.push_str(" take ")?;
-            push_span(&mut line, from, to)?;
-            line.push_str(" ==")?;
-        }
+        push_took(&mut line, turn.took)?;
         push_end(&mut line, turn.end)?;
         push_line(out, line.as_str())?;
     }
