@@ -128,7 +128,10 @@ fn happens_of(stream: &Stream<'_>, pid: &str, asked: bool, says: Says<'_>) -> Op
                 None => None,
             },
         }),
-        Says::Reply { pid: Some(named), .. } if named == pid => Some(Happens::Reply),
+        Says::Reply {
+            pid: Some(named),
+            ..
+        } if named == pid => Some(Happens::Reply),
         Says::Reply { .. } if asked => Some(Happens::Refused),
         Says::Got { position, .. } => Some(Happens::Got {
             from: position,
