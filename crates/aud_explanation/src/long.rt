@@ -1,5 +1,5 @@
 //! Long lists, of which the middle is left out.
-ghost use Rattle.std.specs.Prelude.{◌≡◌, ◌++◌, IfOk, OnOk, string_bytes};
+ghost use Rattle.std.specs.Prelude.{◌≡◌, ◌++◌, IfOk, OnOk, drop, string_bytes, take};
 ghost use Rattle.aud_explanation.specs.Long.{all_shown, first_shown, last_shown, left_out, more_line};
 
 use std::alloc::{AllocError, Global};
@@ -12,12 +12,28 @@ pub(crate) fn left_out<T>(list: &[T]) -> usize
     list.len().saturating_sub(200)
 }
 
+/// The first so many, or all where there are fewer.
+pub(crate) fn front<T>(list: &[T], most: usize) -> &[T]
+    ensures { result.now ≡ take most list.now }
+{
+    let (front, _) = list.split_at(most.min(list.len()));
+    front
+}
+
+/// Those past the first so many.
+pub(crate) fn past<T>(list: &[T], count: usize) -> &[T]
+    ensures { result.now ≡ drop count list.now }
+{
+    let (_, back) = list.split_at(count.min(list.len()));
+    back
+}
+
 /// The first 100, or all where there are fewer.
 #[tactic(auto, unfolding(crate::specs::Long::first_shown))]
 pub(crate) fn first_shown<T>(list: &[T]) -> &[T]
     ensures { result.now ≡ first_shown list.now }
 {
-    list.get(..100).unwrap_or(list)
+    front(list, 100)
 }
 
 /// Those that are shown after the ones that are left out, or after the first 100 where none are.
@@ -25,8 +41,7 @@ pub(crate) fn first_shown<T>(list: &[T]) -> &[T]
 pub(crate) fn last_shown<T>(list: &[T]) -> &[T]
     ensures { result.now ≡ last_shown list.now }
 {
-    list.get(100 + list.len().saturating_sub(200)..)
-        .unwrap_or(&[])
+    past(list, 100 + list.len().saturating_sub(200))
 }
 
 /// All that are shown.

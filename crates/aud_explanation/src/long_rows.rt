@@ -2,7 +2,7 @@
 ghost use Rattle.std.specs.Prelude.{◌≡◌, IfOk, find};
 ghost use Rattle.aud_explanation.specs.LongRows.{is_earlier_row, is_fault_row, kept_rows, rows_left};
 
-use crate::long::left_out;
+use crate::long::{front, left_out, past};
 use aud_rows::{Role, Row};
 use std::alloc::{AllocError, Global};
 
@@ -29,8 +29,7 @@ fn first_earlier<'r>(rows: &[Row<'r>]) -> Option<Row<'r>>
 pub(crate) fn kept_rows<'r>(alloc: Global, rows: &[Row<'r>]) -> Result<Vec<Row<'r>>, AllocError>
     ensures { IfOk result (λ kept. kept.items ≡ kept_rows rows.now) }
 {
-    let later = rows.get(100..).unwrap_or(&[]);
-    let between = later.get(..left_out(rows)).unwrap_or(later);
+    let between = front(past(rows, 100), left_out(rows));
     let mut kept = Vec::new(alloc);
     if let Some(row) = first_earlier(between) {
         kept.push(row)?;

@@ -1,7 +1,7 @@
 //! Names that others chose, as they stand in a line.
 ghost use Rattle.std.specs.Prelude.{◌≡◌, ◌++◌, IfOk, OnOk, chars, string_bytes};
 ghost use Rattle.std.specs.Option.{option_copied};
-ghost use Rattle.aud_explanation.specs.Named.{NamesApart, in_quotes, is_plain_name, name_words, named_words, quoted, whole_name};
+ghost use Rattle.aud_explanation.specs.Named.{NamesApart, in_quotes, is_of_plain, is_plain_name, name_words, named_words, quoted, whole_name};
 
 use crate::escape::is_hidden;
 use crate::long::{first_shown, last_shown, left_out};
@@ -16,20 +16,32 @@ pub enum Names {
     Short,
 }
 
-/// Whether a name of these characters stands without quotes: it has some, and none of them is white space, a sign, or
-/// printed as an escape.
+/// Whether the character may stand in a name without quotes.
+fn is_of_plain(c: char) -> bool
+    ensures { result ≡ is_of_plain c }
+{
+    if c.is_whitespace() || c.is_control() {
+        return false;
+    }
+    if is_hidden(c) {
+        return false;
+    }
+    !matches!(c, '"' | ',' | '\\')
+}
+
+/// Whether a name of these characters stands without quotes.
 fn is_plain_name(characters: &[char]) -> bool
     ensures { result ≡ is_plain_name characters.now }
 {
+    if characters.is_empty() {
+        return false;
+    }
     for c in characters {
-        if c.is_whitespace() || c.is_control() || is_hidden(*c) {
-            return false;
-        }
-        if matches!(*c, '"' | ',' | '\\') {
+        if !is_of_plain(*c) {
             return false;
         }
     }
-    !characters.is_empty()
+    true
 }
 
 /// Puts a character between quotes at the end.

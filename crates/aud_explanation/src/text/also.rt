@@ -1,11 +1,26 @@
 //! The other entries with the same fault.
 ghost use Rattle.std.specs.Prelude.{◌≡◌, ◌++◌, OnOk, string_bytes};
-ghost use Rattle.aud_explanation.specs.AlsoText.{more_text, others_text};
+ghost use Rattle.aud_explanation.specs.AlsoText.{also_text, more_text, others_text};
 
 use crate::also::Also;
 use crate::text::page::push_line;
 use crate::text::span::{push_lines, push_span};
 use std::alloc::{AllocError, Global};
+
+fn push_one(alloc: Global, out: &mut String, also: &Also<'_>) -> Result<(), AllocError>
+    ensures { OnOk result (string_bytes out.new ≡ string_bytes out.old ++ also_text also.now) }
+{
+    let mut line = String::new(alloc);
+    line.push_str(if also.position == also.to {
+        "    also entry "
+    } else {
+        "    also entries "
+    })?;
+    push_span(&mut line, also.position, also.to)?;
+    line.push_str(", ")?;
+    push_lines(&mut line, also.lines)?;
+    push_line(out, line.as_str())
+}
 
 /// Puts a line for each range of other entries with the same fault at the end.
 pub(crate) fn push_also(
@@ -16,17 +31,7 @@ pub(crate) fn push_also(
     ensures { OnOk result (string_bytes out.new ≡ string_bytes out.old ++ others_text others.now) }
 {
     for also in others {
-        let words = if also.position == also.to {
-            "    also entry "
-        } else {
-            "    also entries "
-        };
-        let mut line = String::new(alloc);
-        line.push_str(words)?;
-        push_span(&mut line, also.position, also.to)?;
-        line.push_str(", ")?;
-        push_lines(&mut line, also.lines)?;
-        push_line(out, line.as_str())?;
+        push_one(alloc, out, also)?;
     }
     Ok(())
 }

@@ -40,6 +40,23 @@ fn push_piece(out: &mut String, column: usize, words: &str) -> Result<usize, All
     Ok(8 + words.len().min(92))
 }
 
+/// Puts the lines of an event and what happens there at the end, and gives the column after that.
+fn push_event(
+    alloc: Global,
+    out: &mut String,
+    column: usize,
+    event: &ClientEvent,
+) -> Result<usize, AllocError>
+    ensures text { OnOk result (string_bytes out.new
+        ≡ string_bytes out.old ++ piece column (event_words event.now)) }
+    ensures end { IfOk result (λ end. end ≡ piece_end column (event_words event.now)) }
+{
+    let mut words = String::new(alloc);
+    push_span(&mut words, event.first, event.last)?;
+    push_happens(&mut words, event.happens)?;
+    push_piece(out, column, words.as_str())
+}
+
 /// Puts these events at the end, from that column on, and gives the column after them.
 fn push_pieces(
     alloc: Global,
@@ -53,10 +70,7 @@ fn push_pieces(
 {
     let mut column = column;
     for event in events {
-        let mut words = String::new(alloc);
-        push_span(&mut words, event.first, event.last)?;
-        push_happens(&mut words, event.happens)?;
-        column = push_piece(out, column, words.as_str())?;
+        column = push_event(alloc, out, column, event)?;
     }
     Ok(column)
 }

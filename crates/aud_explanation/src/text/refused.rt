@@ -1,7 +1,7 @@
 //! The recoveries that were refused.
 ghost use Rattle.std.specs.Prelude.{◌≡◌, ◌++◌, OnOk, flat_map, string_bytes};
 ghost use Rattle.std.specs.Option.{option_copied};
-ghost use Rattle.aud_explanation.specs.RefusedText.{all_missed_text, all_refused_text, count_words, each_refused_text, head_text, missed_text, reply_text, unexplained_text};
+ghost use Rattle.aud_explanation.specs.RefusedText.{all_missed_text, all_refused_text, count_words, each_refused_text, head_text, missed_text, refused_text, reply_text, unexplained_text};
 
 use crate::long::{first_shown, last_shown, left_out, push_more};
 use crate::name::{Names, push_name, push_named};
@@ -27,7 +27,7 @@ fn push_count(line: &mut String, missed: Option<&[Missed<'_>]>) -> Result<(), Al
     }
 }
 
-/// Puts the line of a refused recovery at the end: what the client got instead, and how many entries it missed.
+/// Puts the line of a refused recovery at the end.
 #[tactic(auto, unfolding(crate::specs::RefusedText::head_text))]
 fn push_head(
     alloc: Global,
@@ -38,8 +38,15 @@ fn push_head(
 {
     let mut line = String::new(alloc);
     line.push_str("refused recovery: ")?;
-    let (got, none) = ("got session ", "got no session");
-    push_named(alloc, &mut line, Names::Short, got, refused.instead, none)?;
+    let instead = refused.instead;
+    push_named(
+        alloc,
+        &mut line,
+        Names::Short,
+        "got session ",
+        instead,
+        "got no session",
+    )?;
     push_count(&mut line, refused.missed)?;
     push_line(out, line.as_str())
 }
@@ -63,16 +70,23 @@ fn push_reply(
     }
 }
 
-/// Puts a line for each of these entries that were missed at the end.
+/// Puts the line of an entry that was missed at the end.
+fn push_missed(alloc: Global, out: &mut String, missed: &Missed<'_>) -> Result<(), AllocError>
+    ensures { OnOk result (string_bytes out.new ≡ string_bytes out.old ++ missed_text missed.now) }
+{
+    let mut line = String::new(alloc);
+    let position = missed.position;
+    write!(&mut line, "    missed entry {position} ")?;
+    push_name(alloc, &mut line, Names::Short, missed.off)?;
+    push_line(out, line.as_str())
+}
+
 fn push_entries(alloc: Global, out: &mut String, entries: &[Missed<'_>]) -> Result<(), AllocError>
     ensures { OnOk result (string_bytes out.new
         ≡ string_bytes out.old ++ flat_map missed_text entries.now) }
 {
     for missed in entries {
-        let position = missed.position;
-        let mut line = format!(in alloc; "    missed entry {position} ")?;
-        push_name(alloc, &mut line, Names::Short, missed.off)?;
-        push_line(out, line.as_str())?;
+        push_missed(alloc, out, missed)?;
     }
     Ok(())
 }
@@ -109,8 +123,28 @@ fn push_unexplained(out: &mut String, has_cause: bool) -> Result<(), AllocError>
     }
 }
 
-/// Puts these refused recoveries of the session with this pid at the end: of each what the client got instead, the ask and
-/// the reply, what it missed, and that no known cause holds, where none is told.
+/// Puts a refused recovery at the end: what the client got instead, the ask and the reply, what it missed, and whether a
+/// cause is known.
+fn push_one(
+    alloc: Global,
+    out: &mut String,
+    files: &[InputFile],
+    pid: &str,
+    verdict: &Verdict,
+    refused: &RefusedRecovery<'_, '_>,
+) -> Result<(), AllocError>
+    ensures { OnOk result (string_bytes out.new
+        ≡ string_bytes out.old ++ refused_text files.now pid.now verdict.now refused.now) }
+{
+    let width = refused.ask.tap.len();
+    push_head(alloc, out, refused)?;
+    push_row(alloc, out, files, pid, verdict, width, &refused.ask)?;
+    push_reply(alloc, out, files, pid, verdict, width, refused.reply)?;
+    push_all_missed(alloc, out, refused.missed)?;
+    push_unexplained(out, refused.has_cause)
+}
+
+/// Puts these refused recoveries of the session with this pid at the end.
 fn push_each(
     alloc: Global,
     out: &mut String,
@@ -124,12 +158,7 @@ fn push_each(
         ++ each_refused_text files.now pid.now verdict.now recoveries.now) }
 {
     for refused in recoveries {
-        let width = refused.ask.tap.len();
-        push_head(alloc, out, refused)?;
-        push_row(alloc, out, files, pid, verdict, width, &refused.ask)?;
-        push_reply(alloc, out, files, pid, verdict, width, refused.reply)?;
-        push_all_missed(alloc, out, refused.missed)?;
-        push_unexplained(out, refused.has_cause)?;
+        push_one(alloc, out, files, pid, verdict, refused)?;
     }
     Ok(())
 }
