@@ -1,9 +1,10 @@
 //! What shows that a session's records are no chain of turns.
 ghost use Rattle.std.specs.Prelude.{◌≡◌, IfOk, IfSome, MatchOption, map};
+ghost use Rattle.std.specs.List.{list_any};
 ghost use Rattle.aud_session_facts.specs.Misfit.{HasChain};
 ghost use Rattle.aud_rows.specs.Seen.{row_seen};
 ghost use Rattle.aud_session_facts.specs.RowLists.{AreTrueRows};
-ghost use Rattle.aud_findings.specs.ChainRecords.{chain_records, earlier_at, fault_at, is_at, mark_role, other_at, role_in};
+ghost use Rattle.aud_findings.specs.ChainRecords.{chain_records, earlier_at, fault_at, is_at, is_fault_at, mark_role, other_at, role_in};
 ghost use Rattle.aud_findings.specs.ShowsChain.{ShowsChain};
 
 use aud_rows::{Role, Row, Sheet};
@@ -63,11 +64,17 @@ fn chain_records(
 fn other_at(misfit: Misfit, marks: &[TurnMark]) -> Option<RecordPlace>
     ensures { result ≡ other_at misfit marks.now }
 {
-    let fault = fault_at(misfit);
-    if marks.iter().any(|mark| is_at(fault, mark.place)) {
+    if has_fault(misfit, marks) {
         return None;
     }
-    fault
+    fault_at(misfit)
+}
+
+/// Whether one of these is the record that does not fit.
+fn has_fault(misfit: Misfit, marks: &[TurnMark]) -> bool
+    ensures { result ≡ list_any (is_fault_at misfit) marks.now }
+{
+    marks.iter().any(|mark| is_at(fault_at(misfit), mark.place))
 }
 
 /// What the record is shown for.

@@ -1,8 +1,8 @@
 //! The client that had a session.
 ghost use Rattle.std.specs.Prelude.{◌≡◌, IfOk, map, option_map};
 ghost use Rattle.std.specs.Option.{option_copied};
-ghost use Rattle.aud_rows.specs.Seen.{row_seen};
-ghost use Rattle.aud_findings.specs.ClientShown.{client_of, client_seen, fault_conn, first_stay};
+ghost use Rattle.aud_rows.specs.Seen.{row_seen, says_seen};
+ghost use Rattle.aud_findings.specs.ClientShown.{client_of, client_seen, conn_in, fault_conn, first_stay};
 
 use aud_client::{Recording, Stay};
 use aud_explanation::Client;
@@ -58,15 +58,22 @@ fn fault_conn(rows: &[Row<'_>]) -> Option<u64>
 {
     for row in rows {
         if matches!(row.role, Role::Fault) {
-            return match row.says {
-                Says::Asks { conn, .. } => Some(conn),
-                Says::Reply { conn, .. } => Some(conn),
-                Says::Got { conn, .. } => Some(conn),
-                Says::Lost { conn } => Some(conn),
-                Says::NoPacket { conn } => Some(conn),
-                _ => None,
-            };
+            return conn_in(row.says);
         }
     }
     None
+}
+
+/// The connection that a client's record is of.
+fn conn_in(says: Says<'_>) -> Option<u64>
+    ensures { result ≡ conn_in (says_seen says.entry) }
+{
+    match says {
+        Says::Asks { conn, .. } => Some(conn),
+        Says::Reply { conn, .. } => Some(conn),
+        Says::Got { conn, .. } => Some(conn),
+        Says::Lost { conn } => Some(conn),
+        Says::NoPacket { conn } => Some(conn),
+        _ => None,
+    }
 }

@@ -1,5 +1,5 @@
 //! What shows that a reply names a session otherwise than its `open`.
-ghost use Rattle.std.specs.Prelude.{◌≡◌, IfOk, IfSome, MatchOption, None, map};
+ghost use Rattle.std.specs.Prelude.{◌≡◌, IfOk, IfSome, MatchOption, None, find, map};
 ghost use Rattle.std.specs.Option.{option_copied};
 ghost use Rattle.aud_check.specs.NamedStays.{has_sid};
 ghost use Rattle.aud_node.specs.Stream.{Text};
@@ -9,7 +9,7 @@ ghost use Rattle.aud_rows.specs.Seen.{row_seen};
 ghost use Rattle.aud_rows.specs.ClientPlaces.{AreOf};
 ghost use Rattle.aud_rows.specs.StayRows.{stays_at};
 ghost use Rattle.aud_session_facts.specs.RowLists.{AreTrueRows};
-ghost use Rattle.aud_findings.specs.ShowsNames.{AreNamedAlike, IsOpenedAs, ShowsNames, first_otherwise, is_some_otherwise};
+ghost use Rattle.aud_findings.specs.ShowsNames.{AreNamedAlike, IsOpenedAs, ShowsNames, first_otherwise, is_open_mark, is_some_otherwise};
 
 use crate::record_at::{record_at, stay_at};
 use crate::replies::numbers_naming;
@@ -69,10 +69,9 @@ fn opened_as<'a>(logs: &Logs<'a>, marks: &[TurnMark], pid: &str) -> Option<Opene
         → IsOpenedAs logs.now pid.now opening sid nsp
         → ⊥) (λ o. IsOpenedAs logs.now pid.now o.mark o.sid.now o.nsp.now) }
 {
-    let mark = marks
-        .iter()
-        .copied()
-        .find(|mark| matches!(mark.mark, Mark::Open))?;
+    let Some(mark) = first_open(marks) else {
+        return None;
+    };
     match record_at(logs, mark.place.node, mark.place.number) {
         Some(
             NodeRec::Opened {
@@ -87,6 +86,16 @@ fn opened_as<'a>(logs: &Logs<'a>, marks: &[TurnMark], pid: &str) -> Option<Opene
         }),
         _ => None,
     }
+}
+
+/// The first of these that is an `open`.
+fn first_open(marks: &[TurnMark]) -> Option<TurnMark>
+    ensures { result ≡ find is_open_mark marks.now }
+{
+    marks
+        .iter()
+        .copied()
+        .find(|mark| matches!(mark.mark, Mark::Open))
 }
 
 /// The number of the first of these stays whose reply names the session otherwise than this.

@@ -2,7 +2,7 @@
 ghost use Rattle.std.specs.Prelude.{◌≡◌, ◌<◌, ◌-◌, ◌^◌, IfOk, map};
 ghost use Rattle.std.specs.Option.{option_map};
 ghost use Rattle.aud_findings.specs.ShownTurn.{turn_seen};
-ghost use Rattle.aud_findings.specs.MarkedTurns.{begins_by, end_open, greatest_turn, last_by, mark_shown, mark_span, marked_turns, next_on, span_from, turn_number};
+ghost use Rattle.aud_findings.specs.MarkedTurns.{begins_by, end_open, greatest_turn, last_by, last_number, mark_shown, mark_span, marked_turns, next_on, span_from, turn_number};
 
 use crate::timeline::shown::{push_turn, span_shown};
 use crate::timeline::span::{Ends, LastRecord, TurnSpan};
@@ -79,10 +79,7 @@ fn span_from(
 {
     let begin = begins_by(mark.mark)?;
     let turn = turn_number(mark.mark);
-    let log_end = match logs.node(mark.place.node) {
-        Some(log) => log.recs().len().saturating_sub(1),
-        None => 0,
-    };
+    let log_end = last_number(logs, mark.place.node);
     let last = last_by(turn, turn < greatest, log_end, next);
     Some(TurnSpan {
         turn,
@@ -125,6 +122,16 @@ fn greatest_turn(marks: &[TurnMark]) -> u16
         greatest = turn_number(mark.mark).max(greatest);
     }
     greatest
+}
+
+/// The number of the last record of the node at this place, 0 where it has none.
+fn last_number(logs: &Logs<'_>, node: usize) -> usize
+    ensures { result ≡ last_number logs.now node }
+{
+    match logs.node(node) {
+        Some(log) => log.recs().len().saturating_sub(1),
+        None => 0,
+    }
 }
 
 /// The last record of this turn, by the next mark of the session on the node, if there is one. The node's log ends with
