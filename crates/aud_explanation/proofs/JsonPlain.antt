@@ -40,7 +40,7 @@ use Rattle.aud_explanation.specs.JsonAlso.{also_data, with_also}
 use Rattle.aud_explanation.specs.JsonCause.{cause_data, of_line}
 use Rattle.aud_explanation.specs.JsonEvent.{after_at, from_at, to_at, event_data}
 use Rattle.aud_explanation.specs.JsonRefused.{missed_data, all_missed_data, missed_left_data, reply_data, refused_data}
-use Rattle.aud_explanation.specs.Json.{explanation_data}
+use Rattle.aud_explanation.specs.Json.{explanation_data, with_causes, with_events, with_refuted}
 use Rattle.aud_explanation.specs.WholeRecord.{whole_record_data}
 
 -- ---- members and items
@@ -200,6 +200,18 @@ others-plain others left pids ms rest =
     puts-plain ((codes "also", array (items also_data others)) ∷ (codes "also_left", whole left) ∷ (codes "alike", array (items text_data pids)) ∷ [])
     ms (rw (items-plain also_data also-plain others, texts-plain pids) refl) rest
 
+events-plain : (events : List ClientEvent) (ms : Members) → members_have_float ms ≡ false → members_have_float (with_events events ms) ≡ false
+unfolding with_events
+events-plain events ms rest = shown-plain event_data event-plain (codes "events") (codes "events_left") events ms rest
+
+causes-plain : (causes : List Cause) (ms : Members) → members_have_float ms ≡ false → members_have_float (with_causes causes ms) ≡ false
+unfolding with_causes
+causes-plain causes ms rest = shown-plain cause_data cause-plain (codes "causes") (codes "causes_left") causes ms rest
+
+refuted-plain : (refuted : List (Bor (List ℕ))) (ms : Members) → members_have_float ms ≡ false → members_have_float (with_refuted refuted ms) ≡ false
+unfolding with_refuted
+refuted-plain refuted ms rest = put-plain (codes "refuted") (array (items text_data refuted)) ms (texts-plain refuted) rest
+
 -- ---- the whole
 
 pub explanation-plain : (files : List InputFile) (e : Explanation) → has_float (explanation_data files e) ≡ false
@@ -212,8 +224,8 @@ explanation-plain files e =
     let m5 : Members = with_evidence files e.pid.now e.evidence.now m4 in
     let m6 : Members = with_also e.also.now e.also_left e.alike.now m5 in
     let m7 : Members = with_shown (refused_data files e.pid.now) (codes "refused") (codes "refused_left") e.refused.now m6 in
-    let m8 : Members = with_shown event_data (codes "events") (codes "events_left") e.events.now m7 in
-    let m9 : Members = with_shown cause_data (codes "causes") (codes "causes_left") e.causes.now m8 in
+    let m8 : Members = with_events e.events.now m7 in
+    let m9 : Members = with_causes e.causes.now m8 in
     let p1 = verdict-plain e.pid.now e.verdict.now class no_members refl in
     let p2 = client-plain e.client m1 p1 in
     let p3 = account-plain e.verdict.now e.account m2 p2 in
@@ -221,9 +233,9 @@ explanation-plain files e =
     let p5 = evidence-plain files e.pid.now e.evidence.now m4 p4 in
     let p6 = others-plain e.also.now e.also_left e.alike.now m5 p5 in
     let p7 = shown-plain (refused_data files e.pid.now) (refused-plain files e.pid.now) (codes "refused") (codes "refused_left") e.refused.now m6 p6 in
-    let p8 = shown-plain event_data event-plain (codes "events") (codes "events_left") e.events.now m7 p7 in
-    let p9 = shown-plain cause_data cause-plain (codes "causes") (codes "causes_left") e.causes.now m8 p8 in
-    put-plain (codes "refuted") (array (items text_data e.refuted.now)) m9 (texts-plain e.refuted.now) p9
+    let p8 = events-plain e.events.now m7 p7 in
+    let p9 = causes-plain e.causes.now m8 p8 in
+    refuted-plain e.refuted.now m9 p9
 
 -- ---- a record by its number
 

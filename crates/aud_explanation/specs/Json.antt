@@ -1,9 +1,12 @@
 -- The JSON of an explanation.
 use Rattle.std.specs.Prelude.{ℕ, List, codes}
+use Rattle.std.specs.Borrow.{Bor}
 use Rattle.serde_json.specs.Data.{Data, array, object, Members, no_members, put}
 use Rattle.serde_json.specs.Written.{compact_text}
 use Rattle.aud_cert.specs.Text.{items}
 use Rattle.aud_input.specs.declared.input_file.InputFile.{InputFile}
+use Rattle.aud_explanation.specs.declared.cause.Cause.{Cause}
+use Rattle.aud_explanation.specs.declared.event.ClientEvent.{ClientEvent}
 use Rattle.aud_explanation.specs.declared.explanation.Explanation.{Explanation}
 use Rattle.aud_explanation.specs.ExplainedClass.{class_of_explained}
 use Rattle.aud_explanation.specs.JsonValue.{text_data, with_shown}
@@ -28,12 +31,24 @@ shown_members files e ms =
     (with_evidence files e.pid.now e.evidence.now
     (with_shown turn_data (codes "turns") (codes "turns_left") e.turns.now ms))
 
+-- what happened to the client
+unfoldable pub with_events : List ClientEvent → Members → Members
+with_events events ms = with_shown event_data (codes "events") (codes "events_left") events ms
+
+-- the causes
+unfoldable pub with_causes : List Cause → Members → Members
+with_causes causes ms = with_shown cause_data (codes "causes") (codes "causes_left") causes ms
+
+-- the names of the causes that were refuted
+unfoldable pub with_refuted : List (Bor (List ℕ)) → Members → Members
+with_refuted refuted ms = put (codes "refuted") (array (items text_data refuted)) ms
+
 -- the refused recoveries, what happened to the client, the causes, and the names of those that were refuted
 abbrev pub told_members : List InputFile → Explanation → Members → Members
 told_members files e ms =
-    put (codes "refuted") (array (items text_data e.refuted.now))
-    (with_shown cause_data (codes "causes") (codes "causes_left") e.causes.now
-    (with_shown event_data (codes "events") (codes "events_left") e.events.now
+    with_refuted e.refuted.now
+    (with_causes e.causes.now
+    (with_events e.events.now
     (with_shown (refused_data files e.pid.now) (codes "refused") (codes "refused_left") e.refused.now ms)))
 
 -- an object with all these members, its keys in byte order

@@ -1,7 +1,7 @@
 //! The JSON of an explanation.
 ghost use Rattle.std.specs.Prelude.{◌≡◌, IfOk, OnOk, string_bytes};
 ghost use Rattle.serde_json.specs.View.{view, members_view};
-ghost use Rattle.aud_explanation.specs.Json.{explanation_data, explanation_json, shown_members, told_members};
+ghost use Rattle.aud_explanation.specs.Json.{explanation_data, explanation_json, shown_members, told_members, with_causes, with_events, with_refuted};
 
 mod account;
 mod also;
@@ -14,7 +14,9 @@ mod turn;
 pub(crate) mod value;
 mod verdict;
 
+use crate::cause::Cause;
 use crate::escape::push_json_printed;
+use crate::event::ClientEvent;
 use crate::explanation::{Explanation, class_of_explained};
 use crate::json_line::account::{put_account, put_client};
 use crate::json_line::also::put_also;
@@ -48,6 +50,48 @@ fn put_found(
     )
 }
 
+/// Puts what happened to the client.
+#[tactic(auto, unfolding(crate::specs::Json::with_events))]
+fn put_events(
+    alloc: Global,
+    members: &mut Map<String, Value>,
+    events: &[ClientEvent],
+) -> Result<(), AllocError>
+    ensures { OnOk result (members_view members.new.entries
+        ≡ with_events events.now (members_view members.old.entries)) }
+{
+    let names = ("events", "events_left");
+    put_shown(alloc, members, &[], "", names, events)
+}
+
+/// Puts the causes.
+#[tactic(auto, unfolding(crate::specs::Json::with_causes))]
+fn put_causes(
+    alloc: Global,
+    members: &mut Map<String, Value>,
+    causes: &[Cause<'_>],
+) -> Result<(), AllocError>
+    ensures { OnOk result (members_view members.new.entries
+        ≡ with_causes causes.now (members_view members.old.entries)) }
+{
+    let names = ("causes", "causes_left");
+    put_shown(alloc, members, &[], "", names, causes)
+}
+
+/// Puts the names of the causes that were refuted.
+#[tactic(auto, unfolding(crate::specs::Json::with_refuted))]
+fn put_refuted(
+    alloc: Global,
+    members: &mut Map<String, Value>,
+    refuted: &[&'static str],
+) -> Result<(), AllocError>
+    ensures { OnOk result (members_view members.new.entries
+        ≡ with_refuted refuted.now (members_view members.old.entries)) }
+{
+    let values = texts(alloc, refuted)?;
+    put(members, alloc, "refuted", Value::Array(values))
+}
+
 /// Puts the refused recoveries, what happened to the client, the causes, and the names of those that were refuted.
 fn put_told(
     alloc: Global,
@@ -61,12 +105,9 @@ fn put_told(
     let pid = explanation.pid;
     let names = ("refused", "refused_left");
     put_shown(alloc, members, files, pid, names, explanation.refused)?;
-    let names = ("events", "events_left");
-    put_shown(alloc, members, files, pid, names, explanation.events)?;
-    let names = ("causes", "causes_left");
-    put_shown(alloc, members, files, pid, names, explanation.causes)?;
-    let refuted = Value::Array(texts(alloc, explanation.refuted)?);
-    put(members, alloc, "refuted", refuted)
+    put_events(alloc, members, explanation.events)?;
+    put_causes(alloc, members, explanation.causes)?;
+    put_refuted(alloc, members, explanation.refuted)
 }
 
 fn explanation_value(

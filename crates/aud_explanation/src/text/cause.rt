@@ -1,6 +1,6 @@
 //! The causes.
 ghost use Rattle.std.specs.Prelude.{◌≡◌, ◌++◌, OnOk, string_bytes};
-ghost use Rattle.aud_explanation.specs.CauseText.{causes_text, each_text, has_own, is_sole, lines_words, none_holds, none_text, of_words};
+ghost use Rattle.aud_explanation.specs.CauseText.{cause_text, causes_text, each_text, has_own, is_sole, lines_words, of_words};
 
 use crate::cause::{Cause, CauseOf, CauseState};
 use crate::long::{first_shown, last_shown, left_out, push_more};
@@ -31,6 +31,30 @@ fn push_of(line: &mut String, of: CauseOf) -> Result<(), AllocError>
     }
 }
 
+/// Puts the lines of a cause at the end: what happened, and what to do.
+fn push_cause(
+    alloc: Global,
+    out: &mut String,
+    sole: bool,
+    cause: &Cause<'_>,
+) -> Result<(), AllocError>
+    ensures { OnOk result (string_bytes out.new
+        ≡ string_bytes out.old ++ cause_text sole cause.now) }
+{
+    let (id, why, todo) = (cause.id, cause.why, cause.todo);
+    let stands = match (sole, cause.of, cause.state) {
+        (true, CauseOf::Fault, CauseState::Fits) => "the one cause known",
+        _ => cause.state.word(),
+    };
+    let mut line = format!(in alloc; "cause {id} ({stands}")?;
+    push_where(&mut line, cause.lines)?;
+    push_of(&mut line, cause.of)?;
+    write!(&mut line, "): {why}")?;
+    push_line(out, line.as_str())?;
+    let line = format!(in alloc; "do: {todo}")?;
+    push_line(out, line.as_str())
+}
+
 /// Whether one of the causes is of the fault.
 fn has_own(causes: &[Cause<'_>]) -> bool
     ensures { result ≡ has_own causes.now }
@@ -54,26 +78,7 @@ fn is_sole(refuted: &[&'static str], causes: &[Cause<'_>]) -> bool
     }
 }
 
-/// Puts at the end that no known cause holds, where causes of the fault are known, of which these were refuted, and none
-/// of those that hold is of the fault.
-fn push_none(
-    out: &mut String,
-    refuted: &[&'static str],
-    causes: &[Cause<'_>],
-) -> Result<(), AllocError>
-    ensures { OnOk result (string_bytes out.new
-        ≡ string_bytes out.old ++ none_text (none_holds refuted.now causes.now)) }
-{
-    if refuted.is_empty() {
-        return Ok(());
-    }
-    if has_own(causes) {
-        return Ok(());
-    }
-    out.push_str("no known cause of the fault holds\n")
-}
-
-/// Puts the lines of these causes at the end, of each what happened, and what to do.
+/// Puts these causes at the end.
 fn push_each(
     alloc: Global,
     out: &mut String,
@@ -84,24 +89,13 @@ fn push_each(
         ≡ string_bytes out.old ++ each_text sole causes.now) }
 {
     for cause in causes {
-        let (id, why, todo) = (cause.id, cause.why, cause.todo);
-        let stands = match (sole, cause.of, cause.state) {
-            (true, CauseOf::Fault, CauseState::Fits) => "the one cause known",
-            _ => cause.state.word(),
-        };
-        let mut line = format!(in alloc; "cause {id} ({stands}")?;
-        push_where(&mut line, cause.lines)?;
-        push_of(&mut line, cause.of)?;
-        write!(&mut line, "): {why}")?;
-        push_line(out, line.as_str())?;
-        let line = format!(in alloc; "do: {todo}")?;
-        push_line(out, line.as_str())?;
+        push_cause(alloc, out, sole, cause)?;
     }
     Ok(())
 }
 
-/// Puts the causes at the end, of more than 200 the first 100 and the last 100, and before them that none of the fault
-/// holds, where it is so.
+/// Puts the causes at the end, of more than 200 the first 100 and the last 100. Before them stands that none of the fault
+/// holds, where causes of it are known, of which these were refuted, and none of those that hold is of it.
 pub(crate) fn push_causes(
     alloc: Global,
     out: &mut String,
@@ -111,7 +105,9 @@ pub(crate) fn push_causes(
     ensures { OnOk result (string_bytes out.new
         ≡ string_bytes out.old ++ causes_text refuted.now causes.now) }
 {
-    push_none(out, refuted, causes)?;
+    if !refuted.is_empty() && !has_own(causes) {
+        out.push_str("no known cause of the fault holds\n")?;
+    }
     let sole = is_sole(refuted, causes);
     push_each(alloc, out, sole, first_shown(causes))?;
     push_more(out, left_out(causes))?;

@@ -1,6 +1,6 @@
 //! The table of evidence.
 ghost use Rattle.std.specs.Prelude.{◌≡◌, ◌++◌, OnOk, string_bytes};
-ghost use Rattle.aud_explanation.specs.Evidence.{evidence_text, row_text, rows_text};
+ghost use Rattle.aud_explanation.specs.Evidence.{evidence_text, heading_text, row_text, rows_text, table_text};
 
 use crate::long::{first_shown, last_shown, push_more};
 use crate::long_rows::{kept_rows, rows_left};
@@ -45,6 +45,17 @@ pub(crate) fn push_row(
     push_line(out, line.as_str())
 }
 
+/// Puts the heading of the table at the end.
+fn push_heading(alloc: Global, out: &mut String, width: usize) -> Result<(), AllocError>
+    ensures { OnOk result (string_bytes out.new ≡ string_bytes out.old ++ heading_text width) }
+{
+    let mut line = String::new(alloc);
+    line.push_str("    line ")?;
+    push_left(&mut line, "tap", width)?;
+    line.push_str("  record")?;
+    push_line(out, line.as_str())
+}
+
 /// Puts a line for each row at the end.
 fn push_rows(
     alloc: Global,
@@ -65,9 +76,34 @@ fn push_rows(
     Ok(())
 }
 
+/// Puts the heading and the rows at the end: of more than 200 the first 100, those between at which the fault shows, and
+/// the last 100. The column of taps is as wide as the longest name, and as its heading at least.
+fn push_table(
+    alloc: Global,
+    out: &mut String,
+    files: &[InputFile],
+    pid: &str,
+    verdict: &Verdict,
+    rows: &[Row<'_>],
+) -> Result<(), AllocError>
+    ensures { OnOk result (string_bytes out.new
+        ≡ string_bytes out.old ++ table_text files.now pid.now verdict.now rows.now) }
+{
+    let mut width = 3;
+    for row in rows {
+        width = width.max(row.tap.len());
+    }
+    let kept = kept_rows(alloc, rows)?;
+    let kept = kept.as_slice();
+    push_heading(alloc, out, width)?;
+    push_rows(alloc, out, files, pid, verdict, width, first_shown(rows))?;
+    push_more(out, rows_left(rows, kept))?;
+    push_rows(alloc, out, files, pid, verdict, width, kept)?;
+    push_rows(alloc, out, files, pid, verdict, width, last_shown(rows))
+}
+
 /// Puts the table of evidence of the session with this pid at the end, a line for each row under a heading; nothing
-/// where there is none. Of more than 200 rows the first 100 stand there, those between at which the fault shows, and the
-/// last 100. The column of taps is as wide as the longest name, and as its heading at least.
+/// where there is none.
 pub(crate) fn push_evidence(
     alloc: Global,
     out: &mut String,
@@ -80,21 +116,8 @@ pub(crate) fn push_evidence(
         ≡ string_bytes out.old ++ evidence_text files.now pid.now verdict.now rows.now) }
 {
     if rows.is_empty() {
-        return Ok(());
+        Ok(())
+    } else {
+        push_table(alloc, out, files, pid, verdict, rows)
     }
-    let mut width = 3;
-    for row in rows {
-        width = width.max(row.tap.len());
-    }
-    let mut heading = String::new(alloc);
-    heading.push_str("    line ")?;
-    push_left(&mut heading, "tap", width)?;
-    heading.push_str("  record")?;
-    push_line(out, heading.as_str())?;
-    let kept = kept_rows(alloc, rows)?;
-    let kept = kept.as_slice();
-    push_rows(alloc, out, files, pid, verdict, width, first_shown(rows))?;
-    push_more(out, rows_left(rows, kept))?;
-    push_rows(alloc, out, files, pid, verdict, width, kept)?;
-    push_rows(alloc, out, files, pid, verdict, width, last_shown(rows))
 }

@@ -1,7 +1,7 @@
 //! What a record says, in words, and of which session.
 ghost use Rattle.std.specs.Prelude.{◌≡◌, ◌++◌, OnOk, string_bytes};
 ghost use Rattle.std.specs.Option.{option_copied};
-ghost use Rattle.aud_explanation.specs.Record.{asks_words, entry_words, open_words, other_session, record_text, reply_words};
+ghost use Rattle.aud_explanation.specs.Record.{asks_words, entry_words, lacks_words, names_words, open_words, other_session, record_text, reply_words, takes_up};
 
 use crate::name::{Names, push_name, push_named};
 use aud_rows::Says;
@@ -24,6 +24,22 @@ fn push_asks(
     push_named(alloc, out, names, " after ", off, ", no offset")
 }
 
+/// Puts the names of a reply at the end.
+fn push_names(
+    alloc: Global,
+    out: &mut String,
+    names: Names,
+    sid: &str,
+    pid: Option<&str>,
+) -> Result<(), AllocError>
+    ensures { OnOk result (string_bytes out.new
+        ≡ string_bytes out.old ++ names_words names sid.now pid.entry) }
+{
+    out.push_str(", sid ")?;
+    push_name(alloc, out, names, sid)?;
+    push_named(alloc, out, names, ", pid ", pid, ", no pid")
+}
+
 /// Puts what a client is answered at the end.
 fn push_reply(
     alloc: Global,
@@ -36,9 +52,8 @@ fn push_reply(
     ensures { OnOk result (string_bytes out.new
         ≡ string_bytes out.old ++ reply_words names conn sid.now pid.entry) }
 {
-    write!(out, "conn {conn} reply, sid ")?;
-    push_name(alloc, out, names, sid)?;
-    push_named(alloc, out, names, ", pid ", pid, ", no pid")
+    write!(out, "conn {conn} reply")?;
+    push_names(alloc, out, names, sid, pid)
 }
 
 /// Puts an entry at the end behind the words, by its position and its offset.
@@ -76,8 +91,24 @@ fn push_open(
     write!(out, ", cursor {cursor}")
 }
 
+/// The words that come first where a node takes several entries.
+#[tactic(auto, unfolding(crate::specs::Record::takes_up))]
+fn takes_up() -> &'static str
+    ensures { result.now ≡ takes_up }
+{
+    "takes up to "
+}
+
+/// Puts how many attachments a packet lacks at the end.
+#[tactic(auto, unfolding(crate::specs::Record::lacks_words))]
+fn push_lacks(out: &mut String, conn: u64, missing: u8) -> Result<(), AllocError>
+    ensures { OnOk result (string_bytes out.new
+        ≡ string_bytes out.old ++ lacks_words conn missing) }
+{
+    write!(out, "conn {conn} packet, attachments missing: {missing}")
+}
+
 /// Puts what a record says at the end.
-#[tactic(auto, unfolding(crate::specs::Record::takes_up, crate::specs::Record::lacks_words))]
 pub(crate) fn push_record(
     alloc: Global,
     out: &mut String,
@@ -92,7 +123,7 @@ pub(crate) fn push_record(
         Says::Start { cursor } => write!(out, "start, cursor {cursor}"),
         Says::Take { position, off } => push_entry(alloc, out, names, "take ", position, off),
         Says::Takes { position, off } => {
-            push_entry(alloc, out, names, "takes up to ", position, off)
+            push_entry(alloc, out, names, takes_up(), position, off)
         }
         Says::Open { sid, nsp, cursor } => push_open(alloc, out, names, sid, nsp, cursor),
         Says::Join { room } => {
@@ -117,9 +148,7 @@ pub(crate) fn push_record(
             push_name(alloc, out, names, off)
         }
         Says::Lost { conn } => write!(out, "conn {conn} lost"),
-        Says::Lacks { conn, missing } => {
-            write!(out, "conn {conn} packet, attachments missing: {missing}")
-        }
+        Says::Lacks { conn, missing } => push_lacks(out, conn, missing),
         Says::NoPacket { conn } => write!(out, "conn {conn} no packet"),
     }
 }
