@@ -1,6 +1,6 @@
 //! The causes.
 ghost use Rattle.std.specs.Prelude.{◌≡◌, ◌++◌, OnOk, string_bytes};
-ghost use Rattle.aud_explanation.specs.CauseText.{cause_text, causes_text, each_text, has_own, is_sole, lines_words, of_words};
+ghost use Rattle.aud_explanation.specs.CauseText.{cause_text, causes_text, each_text, has_own, is_sole, lines_words, of_words, stands_words};
 
 use crate::cause::{Cause, CauseOf, CauseState};
 use crate::long::{first_shown, last_shown, left_out, push_more};
@@ -31,6 +31,16 @@ fn push_of(line: &mut String, of: CauseOf) -> Result<(), AllocError>
     }
 }
 
+/// How a cause stands, in words.
+fn stands_words(sole: bool, of: CauseOf, state: CauseState) -> &'static str
+    ensures { result.now ≡ stands_words sole of state }
+{
+    match (sole, of, state) {
+        (true, CauseOf::Fault, CauseState::Fits) => "the one cause known",
+        _ => state.word(),
+    }
+}
+
 /// Puts the lines of a cause at the end: what happened, and what to do.
 fn push_cause(
     alloc: Global,
@@ -42,10 +52,7 @@ fn push_cause(
         ≡ string_bytes out.old ++ cause_text sole cause.now) }
 {
     let (id, why, todo) = (cause.id, cause.why, cause.todo);
-    let stands = match (sole, cause.of, cause.state) {
-        (true, CauseOf::Fault, CauseState::Fits) => "the one cause known",
-        _ => cause.state.word(),
-    };
+    let stands = stands_words(sole, cause.of, cause.state);
     let mut line = format!(in alloc; "cause {id} ({stands}")?;
     push_where(&mut line, cause.lines)?;
     push_of(&mut line, cause.of)?;

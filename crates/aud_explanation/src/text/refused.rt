@@ -1,7 +1,7 @@
 //! The recoveries that were refused.
 ghost use Rattle.std.specs.Prelude.{◌≡◌, ◌++◌, OnOk, flat_map, string_bytes};
 ghost use Rattle.std.specs.Option.{option_copied};
-ghost use Rattle.aud_explanation.specs.RefusedText.{all_missed_text, all_refused_text, each_refused_text, head_text, missed_text, refused_text, reply_text, unexplained_text};
+ghost use Rattle.aud_explanation.specs.RefusedText.{all_missed_text, all_refused_text, count_words, each_refused_text, head_text, missed_text, refused_text, reply_text, unexplained_text};
 
 use crate::long::{first_shown, last_shown, left_out, push_more};
 use crate::name::{Names, push_name, push_named};
@@ -13,7 +13,21 @@ use aud_rows::Row;
 use aud_verdict::Verdict;
 use std::alloc::{AllocError, Global};
 
-/// Puts the line of a refused recovery at the end: what the client got instead, and how many entries it missed.
+/// Puts how many entries a client missed at the end.
+fn push_count(line: &mut String, missed: Option<&[Missed<'_>]>) -> Result<(), AllocError>
+    ensures { OnOk result (string_bytes line.new
+        ≡ string_bytes line.old ++ count_words (option_copied missed.entry)) }
+{
+    match missed {
+        Some(entries) => {
+            let count = entries.len();
+            write!(line, ", missed {count}")
+        }
+        None => write!(line, ", missed: not known"),
+    }
+}
+
+/// Puts the line of a refused recovery at the end.
 #[tactic(auto, unfolding(crate::specs::RefusedText::head_text))]
 fn push_head(
     alloc: Global,
@@ -33,13 +47,7 @@ fn push_head(
         instead,
         "got no session",
     )?;
-    match refused.missed {
-        Some(entries) => {
-            let count = entries.len();
-            write!(&mut line, ", missed {count}")?;
-        }
-        None => line.push_str(", missed: not known")?,
-    }
+    push_count(&mut line, refused.missed)?;
     push_line(out, line.as_str())
 }
 
