@@ -1,6 +1,6 @@
 //! The causes.
 ghost use Rattle.std.specs.Prelude.{◌≡◌, ◌++◌, OnOk, string_bytes};
-ghost use Rattle.aud_explanation.specs.CauseText.{cause_text, causes_text, each_text, has_own, is_sole, lines_words, of_words, stands_words};
+ghost use Rattle.aud_explanation.specs.CauseText.{cause_text, causes_text, each_text, has_own, is_sole, lines_words, none_holds, none_text, of_words, stands_words};
 
 use crate::cause::{Cause, CauseOf, CauseState};
 use crate::long::{first_shown, last_shown, left_out, push_more};
@@ -85,6 +85,25 @@ fn is_sole(refuted: &[&'static str], causes: &[Cause<'_>]) -> bool
     }
 }
 
+/// Puts at the end that no known cause holds, where causes of the fault are known, of which these were refuted, and none
+/// of those that hold is of the fault.
+fn push_none(
+    out: &mut String,
+    refuted: &[&'static str],
+    causes: &[Cause<'_>],
+) -> Result<(), AllocError>
+    ensures { OnOk result (string_bytes out.new
+        ≡ string_bytes out.old ++ none_text (none_holds refuted.now causes.now)) }
+{
+    if refuted.is_empty() {
+        return Ok(());
+    }
+    if has_own(causes) {
+        return Ok(());
+    }
+    out.push_str("no known cause of the fault holds\n")
+}
+
 /// Puts these causes at the end.
 fn push_each(
     alloc: Global,
@@ -101,8 +120,8 @@ fn push_each(
     Ok(())
 }
 
-/// Puts the causes at the end, of more than 200 the first 100 and the last 100. Before them stands that none of the fault
-/// holds, where causes of it are known, of which these were refuted, and none of those that hold is of it.
+/// Puts the causes at the end, of more than 200 the first 100 and the last 100, and before them that none of the fault
+/// holds, where it is so.
 pub(crate) fn push_causes(
     alloc: Global,
     out: &mut String,
@@ -112,9 +131,7 @@ pub(crate) fn push_causes(
     ensures { OnOk result (string_bytes out.new
         ≡ string_bytes out.old ++ causes_text refuted.now causes.now) }
 {
-    if !refuted.is_empty() && !has_own(causes) {
-        out.push_str("no known cause of the fault holds\n")?;
-    }
+    push_none(out, refuted, causes)?;
     let sole = is_sole(refuted, causes);
     push_each(alloc, out, sole, first_shown(causes))?;
     push_more(out, left_out(causes))?;
