@@ -1,7 +1,7 @@
 //! The JSON of an explanation.
 ghost use Rattle.std.specs.Prelude.{◌≡◌, IfOk, OnOk, string_bytes};
 ghost use Rattle.serde_json.specs.View.{view, members_view};
-ghost use Rattle.aud_explanation.specs.Json.{explanation_data, explanation_json, shown_members, told_members, with_causes, with_events, with_refuted};
+ghost use Rattle.aud_explanation.specs.Json.{explanation_data, explanation_json, told_members, with_causes, with_events, with_refuted};
 
 mod account;
 mod also;
@@ -26,29 +26,6 @@ use crate::json_line::verdict::put_verdict;
 use aud_input::InputFile;
 use serde_json::{Map, Value, put};
 use std::alloc::{AllocError, Global};
-
-/// Puts the turns, the evidence, and the other entries and sessions.
-fn put_found(
-    alloc: Global,
-    members: &mut Map<String, Value>,
-    files: &[InputFile],
-    explanation: &Explanation<'_, '_, '_>,
-) -> Result<(), AllocError>
-    ensures { OnOk result (members_view members.new.entries
-        ≡ shown_members files.now explanation.now (members_view members.old.entries)) }
-{
-    let pid = explanation.pid;
-    let names = ("turns", "turns_left");
-    put_shown(alloc, members, files, pid, names, explanation.turns)?;
-    put_evidence(alloc, members, files, pid, explanation.evidence)?;
-    put_also(
-        alloc,
-        members,
-        explanation.also,
-        explanation.also_left,
-        explanation.alike,
-    )
-}
 
 /// Puts what happened to the client.
 #[tactic(auto, unfolding(crate::specs::Json::with_events))]
@@ -123,7 +100,11 @@ fn explanation_value(
     put_verdict(alloc, &mut members, pid, verdict, class)?;
     put_client(alloc, &mut members, explanation.client)?;
     put_account(alloc, &mut members, verdict, explanation.account)?;
-    put_found(alloc, &mut members, files, explanation)?;
+    let names = ("turns", "turns_left");
+    put_shown(alloc, &mut members, files, pid, names, explanation.turns)?;
+    put_evidence(alloc, &mut members, files, pid, explanation.evidence)?;
+    let (also, left) = (explanation.also, explanation.also_left);
+    put_also(alloc, &mut members, also, left, explanation.alike)?;
     put_told(alloc, &mut members, files, explanation)?;
     Ok(Value::Object(members))
 }
