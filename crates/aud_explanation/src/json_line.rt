@@ -1,7 +1,7 @@
 //! The JSON of an explanation.
 ghost use Rattle.std.specs.Prelude.{◌≡◌, IfOk, OnOk, string_bytes};
 ghost use Rattle.serde_json.specs.View.{view, members_view};
-ghost use Rattle.aud_explanation.specs.Json.{explanation_data, explanation_json, told_members, with_causes, with_events, with_refuted};
+ghost use Rattle.aud_explanation.specs.Json.{explanation_data, explanation_json, with_causes, with_events, with_refuted};
 
 mod account;
 mod also;
@@ -69,24 +69,6 @@ fn put_refuted(
     put(members, alloc, "refuted", Value::Array(values))
 }
 
-/// Puts the refused recoveries, what happened to the client, the causes, and the names of those that were refuted.
-fn put_told(
-    alloc: Global,
-    members: &mut Map<String, Value>,
-    files: &[InputFile],
-    explanation: &Explanation<'_, '_, '_>,
-) -> Result<(), AllocError>
-    ensures { OnOk result (members_view members.new.entries
-        ≡ told_members files.now explanation.now (members_view members.old.entries)) }
-{
-    let pid = explanation.pid;
-    let names = ("refused", "refused_left");
-    put_shown(alloc, members, files, pid, names, explanation.refused)?;
-    put_events(alloc, members, explanation.events)?;
-    put_causes(alloc, members, explanation.causes)?;
-    put_refuted(alloc, members, explanation.refuted)
-}
-
 fn explanation_value(
     alloc: Global,
     files: &[InputFile],
@@ -105,7 +87,11 @@ fn explanation_value(
     put_evidence(alloc, &mut members, files, pid, explanation.evidence)?;
     let (also, left) = (explanation.also, explanation.also_left);
     put_also(alloc, &mut members, also, left, explanation.alike)?;
-    put_told(alloc, &mut members, files, explanation)?;
+    let names = ("refused", "refused_left");
+    put_shown(alloc, &mut members, files, pid, names, explanation.refused)?;
+    put_events(alloc, &mut members, explanation.events)?;
+    put_causes(alloc, &mut members, explanation.causes)?;
+    put_refuted(alloc, &mut members, explanation.refuted)?;
     Ok(Value::Object(members))
 }
 
