@@ -1,6 +1,6 @@
 //! Texts as they are printed.
 ghost use Rattle.std.specs.Prelude.{◌≡◌, ◌++◌, ◌<◌, IfOk, OnOk, string_bytes};
-ghost use Rattle.aud_explanation.specs.Printed.{PrintedApart, hex_16, hex_code, is_hidden, json_escape, json_printed, json_shown, json_unit, printed, shown};
+ghost use Rattle.aud_explanation.specs.Printed.{PrintedApart, hex_16, hex_code, is_hidden, json_printed, json_shown, json_unit, printed, shown};
 
 use std::alloc::{AllocError, Global};
 
@@ -99,29 +99,21 @@ fn push_json_unit(out: &mut String, unit: u32) -> Result<(), AllocError>
     push_hex_16(out, unit)
 }
 
-/// Puts a character of a JSON string at the end by its code, from U+10000 on both its halves.
+/// Puts a character of JSON at the end as it is printed: by its code, from U+10000 on both its halves, or as it is.
 #[tactic(auto, unfolding(crate::specs::Printed::json_pair))]
-fn push_json_escape(out: &mut String, code: u32) -> Result<(), AllocError>
-    requires { code < 1114112 }
-    ensures { OnOk result (string_bytes out.new ≡ string_bytes out.old ++ json_escape code) }
+fn push_json_shown(out: &mut String, c: char) -> Result<(), AllocError>
+    ensures { OnOk result (string_bytes out.new ≡ string_bytes out.old ++ json_shown c) }
 {
+    if !c.is_control() && !is_hidden(c) {
+        return out.push(c);
+    }
+    let code = c as u32;
     if code < 65536 {
         return push_json_unit(out, code);
     }
     let past = code - 65536;
     push_json_unit(out, 0xd800 + past / 1024)?;
     push_json_unit(out, 0xdc00 + past % 1024)
-}
-
-/// Puts a character of JSON at the end as it is printed.
-fn push_json_shown(out: &mut String, c: char) -> Result<(), AllocError>
-    ensures { OnOk result (string_bytes out.new ≡ string_bytes out.old ++ json_shown c) }
-{
-    if c.is_control() || is_hidden(c) {
-        push_json_escape(out, c as u32)
-    } else {
-        out.push(c)
-    }
 }
 
 /// Puts JSON without blanks between its tokens at the end as it is printed: a control or a hidden character, which

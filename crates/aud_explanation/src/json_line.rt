@@ -1,7 +1,7 @@
 //! The JSON of an explanation.
 ghost use Rattle.std.specs.Prelude.{◌≡◌, IfOk, OnOk, string_bytes};
 ghost use Rattle.serde_json.specs.View.{view, members_view};
-ghost use Rattle.aud_explanation.specs.Json.{explanation_data, explanation_json, head_members, shown_members, told_members, with_causes, with_events, with_refuted};
+ghost use Rattle.aud_explanation.specs.Json.{explanation_data, explanation_json, with_causes, with_events, with_refuted};
 
 mod account;
 mod also;
@@ -26,44 +26,6 @@ use crate::json_line::verdict::put_verdict;
 use aud_input::InputFile;
 use serde_json::{Map, Value, put};
 use std::alloc::{AllocError, Global};
-
-/// Puts the verdict, the client, and what it received.
-fn put_head(
-    alloc: Global,
-    members: &mut Map<String, Value>,
-    explanation: &Explanation<'_, '_, '_>,
-) -> Result<(), AllocError>
-    ensures { OnOk result (members_view members.new.entries
-        ≡ head_members explanation.now (members_view members.old.entries)) }
-{
-    let class = class_of_explained(explanation);
-    put_verdict(alloc, members, explanation.pid, explanation.verdict, class)?;
-    put_client(alloc, members, explanation.client)?;
-    put_account(alloc, members, explanation.verdict, explanation.account)
-}
-
-/// Puts the turns, the evidence, and the other entries and sessions.
-fn put_found(
-    alloc: Global,
-    members: &mut Map<String, Value>,
-    files: &[InputFile],
-    explanation: &Explanation<'_, '_, '_>,
-) -> Result<(), AllocError>
-    ensures { OnOk result (members_view members.new.entries
-        ≡ shown_members files.now explanation.now (members_view members.old.entries)) }
-{
-    let pid = explanation.pid;
-    let names = ("turns", "turns_left");
-    put_shown(alloc, members, files, pid, names, explanation.turns)?;
-    put_evidence(alloc, members, files, pid, explanation.evidence)?;
-    put_also(
-        alloc,
-        members,
-        explanation.also,
-        explanation.also_left,
-        explanation.alike,
-    )
-}
 
 /// Puts what happened to the client.
 #[tactic(auto, unfolding(crate::specs::Json::with_events))]
@@ -107,24 +69,6 @@ fn put_refuted(
     put(members, alloc, "refuted", Value::Array(values))
 }
 
-/// Puts the refused recoveries, what happened to the client, the causes, and the names of those that were refuted.
-fn put_told(
-    alloc: Global,
-    members: &mut Map<String, Value>,
-    files: &[InputFile],
-    explanation: &Explanation<'_, '_, '_>,
-) -> Result<(), AllocError>
-    ensures { OnOk result (members_view members.new.entries
-        ≡ told_members files.now explanation.now (members_view members.old.entries)) }
-{
-    let pid = explanation.pid;
-    let names = ("refused", "refused_left");
-    put_shown(alloc, members, files, pid, names, explanation.refused)?;
-    put_events(alloc, members, explanation.events)?;
-    put_causes(alloc, members, explanation.causes)?;
-    put_refuted(alloc, members, explanation.refuted)
-}
-
 fn explanation_value(
     alloc: Global,
     files: &[InputFile],
@@ -132,10 +76,22 @@ fn explanation_value(
 ) -> Result<Value, AllocError>
     ensures { IfOk result (λ v. view v ≡ explanation_data files.now explanation.now) }
 {
+    let (pid, verdict) = (explanation.pid, explanation.verdict);
+    let class = class_of_explained(explanation);
     let mut members = Map::new(alloc);
-    put_head(alloc, &mut members, explanation)?;
-    put_found(alloc, &mut members, files, explanation)?;
-    put_told(alloc, &mut members, files, explanation)?;
+    put_verdict(alloc, &mut members, pid, verdict, class)?;
+    put_client(alloc, &mut members, explanation.client)?;
+    put_account(alloc, &mut members, verdict, explanation.account)?;
+    let names = ("turns", "turns_left");
+    put_shown(alloc, &mut members, files, pid, names, explanation.turns)?;
+    put_evidence(alloc, &mut members, files, pid, explanation.evidence)?;
+    let (also, left) = (explanation.also, explanation.also_left);
+    put_also(alloc, &mut members, also, left, explanation.alike)?;
+    let names = ("refused", "refused_left");
+    put_shown(alloc, &mut members, files, pid, names, explanation.refused)?;
+    put_events(alloc, &mut members, explanation.events)?;
+    put_causes(alloc, &mut members, explanation.causes)?;
+    put_refuted(alloc, &mut members, explanation.refuted)?;
     Ok(Value::Object(members))
 }
 

@@ -1,8 +1,8 @@
 //! The rows of long evidence.
 ghost use Rattle.std.specs.Prelude.{◌≡◌, IfOk, find};
-ghost use Rattle.aud_explanation.specs.LongRows.{is_earlier_row, is_fault_row, kept_rows, rows_left, rows_shown};
+ghost use Rattle.aud_explanation.specs.LongRows.{is_earlier_row, is_fault_row, kept_rows, rows_left};
 
-use crate::long::{first_shown, front, last_shown, left_out, past};
+use crate::long::{front, left_out, past};
 use aud_rows::{Role, Row};
 use std::alloc::{AllocError, Global};
 
@@ -10,24 +10,18 @@ use std::alloc::{AllocError, Global};
 fn first_fault<'r>(rows: &[Row<'r>]) -> Option<Row<'r>>
     ensures { result ≡ find is_fault_row rows.now }
 {
-    for row in rows {
-        if matches!(row.role, Role::Fault) {
-            return Some(*row);
-        }
-    }
-    None
+    rows.iter()
+        .copied()
+        .find(|row| matches!(row.role, Role::Fault))
 }
 
 /// The first of the rows whose record the fault contradicts.
 fn first_earlier<'r>(rows: &[Row<'r>]) -> Option<Row<'r>>
     ensures { result ≡ find is_earlier_row rows.now }
 {
-    for row in rows {
-        if matches!(row.role, Role::Earlier) {
-            return Some(*row);
-        }
-    }
-    None
+    rows.iter()
+        .copied()
+        .find(|row| matches!(row.role, Role::Earlier))
 }
 
 /// Those of the rows between the first 100 and the last 100 that are shown all the same: two at most.
@@ -53,21 +47,4 @@ pub(crate) fn rows_left(rows: &[Row<'_>], kept: &[Row<'_>]) -> usize
     ensures { result ≡ rows_left rows.now }
 {
     left_out(rows).saturating_sub(kept.len())
-}
-
-/// All that are shown, where these are kept.
-#[tactic(auto, unfolding(crate::specs::LongRows::rows_shown))]
-pub(crate) fn rows_shown<'r>(
-    alloc: Global,
-    rows: &[Row<'r>],
-    kept: &[Row<'r>],
-) -> Result<Vec<Row<'r>>, AllocError>
-    requires { kept.now ≡ kept_rows rows.now }
-    ensures { IfOk result (λ shown. shown.items ≡ rows_shown rows.now) }
-{
-    let mut shown = Vec::new(alloc);
-    shown.extend_from_slice(first_shown(rows))?;
-    shown.extend_from_slice(kept)?;
-    shown.extend_from_slice(last_shown(rows))?;
-    Ok(shown)
 }

@@ -1,7 +1,7 @@
 //! Names that others chose, as they stand in a line.
 ghost use Rattle.std.specs.Prelude.{◌≡◌, ◌++◌, IfOk, OnOk, chars, string_bytes};
 ghost use Rattle.std.specs.Option.{option_copied};
-ghost use Rattle.aud_explanation.specs.Named.{NamesApart, cut_name, in_quotes, is_of_plain, is_plain_name, name_words, named_words, quoted, whole_name};
+ghost use Rattle.aud_explanation.specs.Named.{NamesApart, in_quotes, is_of_plain, is_plain_name, name_words, named_words, quoted, whole_name};
 
 use crate::escape::is_hidden;
 use crate::long::{first_shown, last_shown, left_out};
@@ -66,16 +66,6 @@ fn push_quoted(out: &mut String, characters: &[char]) -> Result<(), AllocError>
     out.push_str("\"")
 }
 
-/// Puts the first and the last of long characters at the end.
-fn push_cut(out: &mut String, characters: &[char]) -> Result<(), AllocError>
-    ensures { OnOk result (string_bytes out.new ≡ string_bytes out.old ++ cut_name characters.now) }
-{
-    push_quoted(out, first_shown(characters))?;
-    let left = left_out(characters);
-    write!(out, " .. {left} more .. ")?;
-    push_quoted(out, last_shown(characters))
-}
-
 fn chars_of(alloc: Global, name: &str) -> Result<Vec<char>, AllocError>
     ensures { IfOk result (λ cs. cs.items ≡ chars name.now) }
 {
@@ -97,7 +87,12 @@ pub(crate) fn push_name(
     let characters = chars_of(alloc, name)?;
     let characters = characters.as_slice();
     match names {
-        Names::Short if left_out(characters) > 0 => push_cut(out, characters),
+        Names::Short if left_out(characters) > 0 => {
+            let left = left_out(characters);
+            push_quoted(out, first_shown(characters))?;
+            write!(out, " .. {left} more .. ")?;
+            push_quoted(out, last_shown(characters))
+        }
         _ if is_plain_name(characters) => out.push_str(name),
         _ => push_quoted(out, characters),
     }

@@ -1,6 +1,6 @@
 //! The text of an explanation.
 ghost use Rattle.std.specs.Prelude.{◌≡◌, ◌++◌, OnOk, string_bytes};
-ghost use Rattle.aud_explanation.specs.Text.{shown_text, told_text, explanation_text};
+ghost use Rattle.aud_explanation.specs.Text.{shown_text, explanation_text};
 
 mod alike;
 mod also;
@@ -42,50 +42,14 @@ fn push_shown(
     ensures { OnOk result (string_bytes out.new
         ≡ string_bytes out.old ++ shown_text files.now explanation.now) }
 {
-    let class = class_of_explained(explanation);
+    let (pid, verdict) = (explanation.pid, explanation.verdict);
+    let (client, account) = (explanation.client, explanation.account);
     let turns = explanation.turns.len();
-    push_verdict(alloc, out, explanation.pid, explanation.verdict, class)?;
-    push_client(
-        alloc,
-        out,
-        explanation.verdict,
-        explanation.client,
-        turns,
-        explanation.account,
-    )?;
-    push_evidence(
-        alloc,
-        out,
-        files,
-        explanation.pid,
-        explanation.verdict,
-        explanation.evidence,
-    )?;
+    push_verdict(alloc, out, pid, verdict, class_of_explained(explanation))?;
+    push_client(alloc, out, verdict, client, turns, account)?;
+    push_evidence(alloc, out, files, pid, verdict, explanation.evidence)?;
     push_also(alloc, out, explanation.also)?;
     push_more(alloc, out, explanation.also_left)
-}
-
-/// Puts the timeline, the refused recoveries and the causes at the end.
-fn push_told(
-    alloc: Global,
-    out: &mut String,
-    files: &[InputFile],
-    explanation: &Explanation<'_, '_, '_>,
-) -> Result<(), AllocError>
-    ensures { OnOk result (string_bytes out.new
-        ≡ string_bytes out.old ++ told_text files.now explanation.now) }
-{
-    push_turns(alloc, out, explanation.turns)?;
-    push_events(alloc, out, explanation.events)?;
-    push_refused(
-        alloc,
-        out,
-        files,
-        explanation.pid,
-        explanation.verdict,
-        explanation.refused,
-    )?;
-    push_causes(alloc, out, explanation.refuted, explanation.causes)
 }
 
 /// Puts the text of an explanation at the end: the verdict with its class, the client, the evidence, the other entries
@@ -112,7 +76,11 @@ pub fn push_text(
     ensures { OnOk result (string_bytes out.new
         ≡ string_bytes out.old ++ explanation_text files.now explanation.now) }
 {
+    let (pid, verdict) = (explanation.pid, explanation.verdict);
     push_shown(alloc, out, files, explanation)?;
     push_alike(alloc, out, explanation.alike)?;
-    push_told(alloc, out, files, explanation)
+    push_turns(alloc, out, explanation.turns)?;
+    push_events(alloc, out, explanation.events)?;
+    push_refused(alloc, out, files, pid, verdict, explanation.refused)?;
+    push_causes(alloc, out, explanation.refuted, explanation.causes)
 }

@@ -1,9 +1,8 @@
 //! A refused recovery as an object.
 ghost use Rattle.std.specs.Prelude.{◌≡◌, IfOk};
-ghost use Rattle.std.specs.Option.{option_copied};
-ghost use Rattle.serde_json.specs.View.{view, items_view};
+ghost use Rattle.serde_json.specs.View.{items_view};
 ghost use Rattle.aud_cert.specs.Text.{items};
-ghost use Rattle.aud_explanation.specs.JsonRefused.{all_missed_data, missed_data};
+ghost use Rattle.aud_explanation.specs.JsonRefused.{missed_data};
 
 use crate::json_line::value::{Told, text_or_null, texts, values};
 use crate::long::{all_shown, left_out};
@@ -29,19 +28,6 @@ fn missed_values(alloc: Global, entries: &[Missed<'_>]) -> Result<Vec<Value>, Al
     values(alloc, &[], "", entries)
 }
 
-/// What was missed, as far as it is shown, or `null`.
-fn all_missed_value(alloc: Global, entries: Option<&[Missed<'_>]>) -> Result<Value, AllocError>
-    ensures { IfOk result (λ v. view v ≡ all_missed_data (option_copied entries.entry)) }
-{
-    match entries {
-        Some(entries) => {
-            let shown = all_shown(alloc, entries)?;
-            Ok(Value::Array(missed_values(alloc, shown.as_slice())?))
-        }
-        None => Ok(Value::Null),
-    }
-}
-
 /// `{"ask":..,"has_cause":..,"instead":..,"missed":..,"missed_left":..,"refuted":[..],"reply":..}`.
 impl<'l, 'r> Told for RefusedRecovery<'l, 'r> {
     ghost use Rattle.aud_explanation.specs.JsonRefused.{refused_data};
@@ -52,10 +38,13 @@ impl<'l, 'r> Told for RefusedRecovery<'l, 'r> {
         let ask = self.ask.value(alloc, files, pid)?;
         let has_cause = self.has_cause;
         let instead = text_or_null(alloc, self.instead)?;
-        let missed = all_missed_value(alloc, self.missed)?;
-        let missed_left = match self.missed {
-            Some(entries) => Value::from(left_out(entries) as u64),
-            None => Value::Null,
+        let (missed, missed_left) = match self.missed {
+            Some(entries) => {
+                let shown = all_shown(alloc, entries)?;
+                let values = missed_values(alloc, shown.as_slice())?;
+                (Value::Array(values), Value::from(left_out(entries) as u64))
+            }
+            None => (Value::Null, Value::Null),
         };
         let refuted = Value::Array(texts(alloc, self.refuted)?);
         let reply = match self.reply {

@@ -5,7 +5,8 @@ ghost use Rattle.aud_explanation.specs.JsonRow.{role_word, with_evidence};
 
 use crate::json_line::place::put_place;
 use crate::json_line::value::{Told, put_texts, values};
-use crate::long_rows::{kept_rows, rows_left, rows_shown};
+use crate::long::{first_shown, last_shown};
+use crate::long_rows::{kept_rows, rows_left};
 use crate::name::Names;
 use crate::text::{other_session, push_record};
 use aud_input::{InputFile, place_told};
@@ -56,7 +57,7 @@ impl<'r> Told for Row<'r> {
 }
 
 /// Puts the rows of the evidence of the session with this pid, as far as they are shown, and how many are left out.
-#[tactic(auto, unfolding(crate::specs::JsonRow::with_evidence))]
+#[tactic(auto, unfolding(crate::specs::JsonRow::with_evidence, crate::specs::LongRows::rows_shown))]
 pub(crate) fn put_evidence(
     alloc: Global,
     members: &mut Map<String, Value>,
@@ -68,7 +69,10 @@ pub(crate) fn put_evidence(
         ≡ with_evidence files.now pid.now rows.now (members_view members.old.entries)) }
 {
     let kept = kept_rows(alloc, rows)?;
-    let shown = rows_shown(alloc, rows, kept.as_slice())?;
+    let mut shown = Vec::new(alloc);
+    shown.extend_from_slice(first_shown(rows))?;
+    shown.extend_from_slice(kept.as_slice())?;
+    shown.extend_from_slice(last_shown(rows))?;
     let values = values(alloc, files, pid, shown.as_slice())?;
     put(members, alloc, "evidence", Value::Array(values))?;
     let left = rows_left(rows, kept.as_slice()) as u64;

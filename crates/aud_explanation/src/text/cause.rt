@@ -66,12 +66,9 @@ fn push_cause(
 fn has_own(causes: &[Cause<'_>]) -> bool
     ensures { result ≡ has_own causes.now }
 {
-    for cause in causes {
-        if matches!(cause.of, CauseOf::Fault) {
-            return true;
-        }
-    }
-    false
+    causes
+        .iter()
+        .any(|cause| matches!(cause.of, CauseOf::Fault))
 }
 
 /// Whether one cause of the fault alone is known: none was refuted, and of these, among which those of the fault come

@@ -1,6 +1,6 @@
 //! The row of what happened to the client.
-ghost use Rattle.std.specs.Prelude.{◌≡◌, ◌++◌, IfOk, OnOk, codes, map, string_bytes};
-ghost use Rattle.aud_explanation.specs.EventText.{event_words, events_text, happens_words, left_words, piece, piece_end, pieces, pieces_end, row_words};
+ghost use Rattle.std.specs.Prelude.{◌≡◌, ◌++◌, IfOk, OnOk, map, string_bytes};
+ghost use Rattle.aud_explanation.specs.EventText.{event_words, events_text, happens_words, left_words, piece, piece_end, pieces, pieces_end};
 
 use crate::event::{ClientEvent, Happens};
 use crate::long::{first_shown, last_shown, left_out};
@@ -93,17 +93,6 @@ fn push_left_words(
     push_piece(out, column, words.as_str())
 }
 
-/// Puts the events that are shown at the end, from the column of the row on, and the newline.
-fn push_shown(alloc: Global, out: &mut String, events: &[ClientEvent]) -> Result<(), AllocError>
-    ensures { OnOk result (string_bytes out.new
-        ≡ string_bytes out.old ++ pieces 10 (row_words events.now) ++ codes "\n") }
-{
-    let after_first = push_pieces(alloc, out, 10, first_shown(events))?;
-    let column = push_left_words(alloc, out, after_first, left_out(events))?;
-    push_pieces(alloc, out, column, last_shown(events))?;
-    out.push_str("\n")
-}
-
 /// Puts the row of the events at the end; nothing where there is none. Of more than 200 the first 100 and the last 100
 /// stand there, and between them how many are left out.
 pub(crate) fn push_events(
@@ -114,9 +103,11 @@ pub(crate) fn push_events(
     ensures { OnOk result (string_bytes out.new ≡ string_bytes out.old ++ events_text events.now) }
 {
     if events.is_empty() {
-        Ok(())
-    } else {
-        out.push_str("    client")?;
-        push_shown(alloc, out, events)
+        return Ok(());
     }
+    out.push_str("    client")?;
+    let after_first = push_pieces(alloc, out, 10, first_shown(events))?;
+    let column = push_left_words(alloc, out, after_first, left_out(events))?;
+    push_pieces(alloc, out, column, last_shown(events))?;
+    out.push_str("\n")
 }

@@ -1,6 +1,6 @@
 //! The table of evidence.
 ghost use Rattle.std.specs.Prelude.{◌≡◌, ◌++◌, OnOk, string_bytes};
-ghost use Rattle.aud_explanation.specs.Evidence.{evidence_text, heading_text, row_text, rows_text, table_text, tap_width};
+ghost use Rattle.aud_explanation.specs.Evidence.{evidence_text, heading_text, row_text, rows_text, table_text};
 
 use crate::long::{first_shown, last_shown, push_more};
 use crate::long_rows::{kept_rows, rows_left};
@@ -13,17 +13,6 @@ use aud_input::InputFile;
 use aud_rows::Row;
 use aud_verdict::Verdict;
 use std::alloc::{AllocError, Global};
-
-/// The width of the column of taps: that of the longest name, and that of its heading at least.
-fn tap_width(rows: &[Row<'_>]) -> usize
-    ensures { result ≡ tap_width rows.now }
-{
-    let mut width = 3;
-    for row in rows {
-        width = width.max(row.tap.len());
-    }
-    width
-}
 
 /// Puts the line of a row at the end: of a record that speaks of another session than the one with this pid, of which.
 #[tactic(auto, unfolding(crate::specs::Evidence::row_text))]
@@ -88,7 +77,7 @@ fn push_rows(
 }
 
 /// Puts the heading and the rows at the end: of more than 200 the first 100, those between at which the fault shows, and
-/// the last 100.
+/// the last 100. The column of taps is as wide as the longest name, and as its heading at least.
 fn push_table(
     alloc: Global,
     out: &mut String,
@@ -100,7 +89,10 @@ fn push_table(
     ensures { OnOk result (string_bytes out.new
         ≡ string_bytes out.old ++ table_text files.now pid.now verdict.now rows.now) }
 {
-    let width = tap_width(rows);
+    let mut width = 3;
+    for row in rows {
+        width = width.max(row.tap.len());
+    }
     let kept = kept_rows(alloc, rows)?;
     let kept = kept.as_slice();
     push_heading(alloc, out, width)?;

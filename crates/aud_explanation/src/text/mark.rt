@@ -1,32 +1,10 @@
 //! What a record is shown for, in words.
 ghost use Rattle.std.specs.Prelude.{◌≡◌};
-ghost use Rattle.aud_explanation.specs.Mark.{fault_mark, mark};
+ghost use Rattle.aud_explanation.specs.Mark.{mark};
 
 use aud_cert::Fault;
 use aud_rows::Role;
 use aud_verdict::Verdict;
-
-/// What the record at which the fault shows has against it.
-fn fault_mark(fault: &Fault) -> &'static str
-    ensures { result.now ≡ fault_mark fault.now }
-{
-    match fault {
-        Fault::NoLog => "  <- opened on no node",
-        Fault::Chain => "  <- does not fit in the turns",
-        Fault::Order => "  <- out of order",
-        Fault::Client => "  <- names the session",
-        Fault::Names => "  <- another name",
-        Fault::Frame => "  <- no packet",
-        Fault::Orphan => "  <- of no known session",
-        Fault::Content(_) => "  <- not as the entry has it",
-        Fault::Extra(_) => "  <- not due",
-        Fault::Doubled(_) => "  <- again",
-        Fault::Swapped(_) => "  <- too early",
-        Fault::Lost(_) => "  <- passes it over",
-        Fault::Window(_) => "  <- does not fit what came",
-        Fault::Tail(_) => "  <- the last received",
-    }
-}
 
 /// What a record is shown for, under this verdict; nothing where the record says it itself.
 pub(crate) fn mark(role: Role, verdict: &Verdict) -> &'static str
@@ -34,8 +12,21 @@ pub(crate) fn mark(role: Role, verdict: &Verdict) -> &'static str
 {
     match role {
         Role::Fault => match verdict {
-            Verdict::No(fault) => fault_mark(fault),
             Verdict::Yes { .. } => "  <- here",
+            Verdict::No(Fault::NoLog) => "  <- opened on no node",
+            Verdict::No(Fault::Chain) => "  <- does not fit in the turns",
+            Verdict::No(Fault::Order) => "  <- out of order",
+            Verdict::No(Fault::Client) => "  <- names the session",
+            Verdict::No(Fault::Names) => "  <- another name",
+            Verdict::No(Fault::Frame) => "  <- no packet",
+            Verdict::No(Fault::Orphan) => "  <- of no known session",
+            Verdict::No(Fault::Content(_)) => "  <- not as the entry has it",
+            Verdict::No(Fault::Extra(_)) => "  <- not due",
+            Verdict::No(Fault::Doubled(_)) => "  <- again",
+            Verdict::No(Fault::Swapped(_)) => "  <- too early",
+            Verdict::No(Fault::Lost(_)) => "  <- passes it over",
+            Verdict::No(Fault::Window(_)) => "  <- does not fit what came",
+            Verdict::No(Fault::Tail(_)) => "  <- the last received",
         },
         Role::Earlier => "  earlier",
         Role::Later => "  later",

@@ -1,23 +1,12 @@
 //! The rows of the turns.
 ghost use Rattle.std.specs.Prelude.{◌≡◌, ◌++◌, OnOk, string_bytes};
-ghost use Rattle.aud_explanation.specs.TurnText.{end_words, node_width, rows_text, took_words, turn_text, turns_text};
+ghost use Rattle.aud_explanation.specs.TurnText.{end_words, rows_text, took_words, turns_text};
 
 use crate::long::{first_shown, last_shown, left_out, push_more};
 use crate::text::page::{push_left, push_line};
 use crate::text::span::push_span;
 use crate::turn::{TurnBegin, TurnEnd, TurnShown};
 use std::alloc::{AllocError, Global};
-
-/// The width of the column of nodes: that of the longest name.
-fn node_width(turns: &[TurnShown<'_>]) -> usize
-    ensures { result ≡ node_width turns.now }
-{
-    let mut width = 1;
-    for turn in turns {
-        width = width.max(turn.node.len());
-    }
-    width
-}
 
 /// Puts what a node took in a turn at the end.
 fn push_took(line: &mut String, took: Option<(u64, u64)>) -> Result<(), AllocError>
@@ -45,29 +34,7 @@ fn push_end(line: &mut String, end: TurnEnd) -> Result<(), AllocError>
     }
 }
 
-/// Puts the row of a turn at the end.
-fn push_turn(
-    alloc: Global,
-    out: &mut String,
-    width: usize,
-    turn: &TurnShown<'_>,
-) -> Result<(), AllocError>
-    ensures { OnOk result (string_bytes out.new
-        ≡ string_bytes out.old ++ turn_text width turn.now) }
-{
-    let (number, at, low) = (turn.turn, turn.begin_line, turn.low);
-    let mut line = format!(in alloc; "    turn {number}  ")?;
-    push_left(&mut line, turn.node, width)?;
-    let begin = match turn.begin {
-        TurnBegin::Open => "open",
-        TurnBegin::Back => "back",
-    };
-    write!(&mut line, "  {at} {begin}, cursor {low} ==")?;
-    push_took(&mut line, turn.took)?;
-    push_end(&mut line, turn.end)?;
-    push_line(out, line.as_str())
-}
-
+/// Puts the rows of the turns at the end, where the column of nodes has this width.
 fn push_rows(
     alloc: Global,
     out: &mut String,
@@ -78,12 +45,23 @@ fn push_rows(
         ≡ string_bytes out.old ++ rows_text width turns.now) }
 {
     for turn in turns {
-        push_turn(alloc, out, width, turn)?;
+        let (number, at, low) = (turn.turn, turn.begin_line, turn.low);
+        let mut line = format!(in alloc; "    turn {number}  ")?;
+        push_left(&mut line, turn.node, width)?;
+        let begin = match turn.begin {
+            TurnBegin::Open => "open",
+            TurnBegin::Back => "back",
+        };
+        write!(&mut line, "  {at} {begin}, cursor {low} ==")?;
+        push_took(&mut line, turn.took)?;
+        push_end(&mut line, turn.end)?;
+        push_line(out, line.as_str())?;
     }
     Ok(())
 }
 
-/// Puts a row for each turn at the end: of more than 200 for the first 100 and the last 100.
+/// Puts a row for each turn at the end: of more than 200 for the first 100 and the last 100. The column of nodes is as wide
+/// as the longest name.
 pub(crate) fn push_turns(
     alloc: Global,
     out: &mut String,
@@ -91,7 +69,10 @@ pub(crate) fn push_turns(
 ) -> Result<(), AllocError>
     ensures { OnOk result (string_bytes out.new ≡ string_bytes out.old ++ turns_text turns.now) }
 {
-    let width = node_width(turns);
+    let mut width = 1;
+    for turn in turns {
+        width = width.max(turn.node.len());
+    }
     push_rows(alloc, out, width, first_shown(turns))?;
     push_more(out, left_out(turns))?;
     push_rows(alloc, out, width, last_shown(turns))

@@ -1,6 +1,6 @@
 //! The line of the verdict.
 ghost use Rattle.std.specs.Prelude.{◌≡◌, ◌++◌, OnOk, string_bytes};
-ghost use Rattle.aud_explanation.specs.Verdict.{verdict_words, class_words, verdict_text};
+ghost use Rattle.aud_explanation.specs.Verdict.{verdict_words, verdict_text};
 
 use crate::name::{Names, push_name};
 use crate::text::page::push_line;
@@ -32,16 +32,6 @@ fn push_words(
     }
 }
 
-/// Puts the class at the end, where there is one.
-fn push_class(line: &mut String, class: Option<Class>) -> Result<(), AllocError>
-    ensures { OnOk result (string_bytes line.new ≡ string_bytes line.old ++ class_words class) }
-{
-    match class {
-        Some(class) => write!(line, " [{class}]"),
-        None => Ok(()),
-    }
-}
-
 /// Puts the line of the verdict at the end, and the class.
 pub(crate) fn push_verdict(
     alloc: Global,
@@ -55,6 +45,8 @@ pub(crate) fn push_verdict(
 {
     let mut line = String::new(alloc);
     push_words(alloc, &mut line, pid, verdict)?;
-    push_class(&mut line, class)?;
+    if let Some(class) = class {
+        write!(&mut line, " [{class}]")?;
+    }
     push_line(out, line.as_str())
 }

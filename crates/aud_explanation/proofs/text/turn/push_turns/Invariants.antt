@@ -1,6 +1,6 @@
 use Rattle.std.proofs.Common.{◌≡◌, take}
 use Rattle.aud_explanation.specs.TurnText.{node_width}
-use Rattle.aud_explanation.proofs.text.turn.node_width.Given as goal
+use Rattle.aud_explanation.proofs.text.turn.push_turns.Given as goal
 
 -- the width for the turns so far
 abbrev pub invariant-loop-turn : goal.invariant-loop-turn

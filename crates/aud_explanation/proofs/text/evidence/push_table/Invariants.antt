@@ -1,6 +1,6 @@
 use Rattle.std.proofs.Common.{◌≡◌, take}
 use Rattle.aud_explanation.specs.Evidence.{tap_width}
-use Rattle.aud_explanation.proofs.text.evidence.tap_width.Given as goal
+use Rattle.aud_explanation.proofs.text.evidence.push_table.Given as goal
 
 -- the width for the rows so far
 abbrev pub invariant-loop-row : goal.invariant-loop-row
