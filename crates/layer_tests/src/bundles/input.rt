@@ -27,8 +27,8 @@ fn tell_lines(recorded: &Recorded, files: &[InputFile], out: &mut Told) {
     }
 }
 
-/// What is read of files, by so many threads; or the number of the line that is refused, its text, and the number of the
-/// header of its tap.
+/// What is read of files, by so many threads; or the number of the line that is refused, its text, and the number of
+/// the header of its tap.
 fn told<H: Threads + Sync>(
     rt: &H,
     alloc: Global,
@@ -113,8 +113,8 @@ fn records_and_refused_lines_are_found(rt: HostRuntime) -> Result<(), Fail> {
     Ok(())
 }
 
-/// How many taps are read, by one thread, of a tap of one record with a certificate between its lines, and the number of
-/// the line of its first certificate.
+/// How many taps are read, by one thread, of a tap of one record with a certificate between its lines, and the number
+/// of the line of its first certificate.
 fn certified<H: Threads + Sync>(
     rt: &H,
     alloc: Global,

@@ -1,5 +1,5 @@
-//! The names of taps, by themselves and before a line's first blank, the pids and sids of sessions, the kinds of records,
-//! the ranks of offsets, and guesses by names and by the ends of texts.
+//! The names of taps, by themselves and before a line's first blank, the pids and sids of sessions, the kinds of
+//! records, the ranks of offsets, and guesses by names and by the ends of texts.
 use aud_base::{Hints, mixed_ending, mixed_name};
 use aud_input::{first_bytes, name_of};
 use aud_reader::{is_client_kind, tap_kind, tap_of_kind};

@@ -1,6 +1,6 @@
 //! Lines, and what is written for their records: by another program, Python's
-//! `json.dumps(record, sort_keys=True, separators=(",", ":"), ensure_ascii=False)` of the fields that a record has; or
-//! the names of docs/FORMAT.md where they are refused.
+//! `json.dumps(record, sort_keys=True, separators=(",", ":"), ensure_ascii=False)` of the fields that a record has;
+//! or the names of docs/FORMAT.md where they are refused.
 use aud_reader::{Line, ReadFault, parse_line};
 use aud_tap::Bytes;
 use aud_writer::write_line;
@@ -120,8 +120,8 @@ static LINES: [(&str, &str); 51] = [
         r#"c1 {"k":"in","t":"\u0001\u001f\n\"\\\b\f\r\t\/\u00e9\ud83d\ude00"}"#,
         r#"c1 {"k":"in","t":"\u0001\u001f\n\"\\\b\f\r\t/é😀"}"#,
     ),
-    // texts with each short escape (RFC 8259, section 7), far from it and beside another, and with characters of several
-    // bytes
+    // texts with each short escape (RFC 8259, section 7), far from it and beside another, and with characters of
+    // several bytes
     (
         r#"t {"k":"in","t":"4\"\\\/\b\f\n\r\t"}"#,
         r#"t {"k":"in","t":"4\"\\/\b\f\n\r\t"}"#,

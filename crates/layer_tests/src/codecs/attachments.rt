@@ -5,7 +5,8 @@ use aud_sio::{Assembler, SioFault, Whole, answers_are_wholes};
 use std::alloc::Global;
 use std::test::Fail;
 
-/// Writes, on a line, what an assembler answered: of a packet its text, namespace, acknowledgement id and attachments.
+/// Writes, on a line, what an assembler answered: of a packet its text, namespace, acknowledgement id and
+/// attachments.
 fn tell_answer(answer: &Result<Option<Whole<'_>>, SioFault>, out: &mut Told) {
     match answer {
         Ok(Some(whole)) => {

@@ -45,7 +45,8 @@ static TEXTS: [(&str, &str); 32] = [
     ("6", r#"Control(Noop, "")"#),
     ("bAQIDBA==", "Own([1, 2, 3, 4])"),
     ("bAQI=", "Own([1, 2])"),
-    // RFC 4648, section 10: the beginnings of "foobar"; and "???>>>", which takes the two signs of section 4's alphabet
+    // RFC 4648, section 10: the beginnings of "foobar"; and "???>>>", which takes the two signs of section 4's
+    // alphabet
     ("b", "Own([])"),
     ("bZg==", "Own([102])"),
     ("bZm8=", "Own([102, 111])"),

@@ -1,13 +1,13 @@
-//! Texts, lists of them, lists in pages, places and pools, over the public calls of `aud_base`; and work that is shared
-//! out among threads.
+//! Texts, lists of them, lists in pages, places and pools, over the public calls of `aud_base`; and work that is
+//! shared out among threads.
 use crate::told::Told;
 use aud_base::{Paged, Places, Text, TextPool, Texts, numbers_to, try_map};
 use std::alloc::{AllocError, Global};
 use std::hash::RandomState;
 use std::test::Fail;
 
-/// Texts: of 1, 0, 3, 14 and 15 bytes, of 15 that end in a character of two, of 16, 40, 41, 104, 105, 168, 169, 232 and
-/// 233.
+/// Texts: of 1, 0, 3, 14 and 15 bytes, of 15 that end in a character of two, of 16, 40, 41, 104, 105, 168, 169, 232
+/// and 233.
 static TEXTS: [&str; 15] = [
     "r",
     "",

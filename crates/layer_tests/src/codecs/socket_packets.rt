@@ -1,13 +1,13 @@
-//! The packet of a text: the examples of the Socket.IO protocol 5 document, section "Packet encoding", with the frames
-//! of its sample session; and the bounds of each part.
+//! The packet of a text: the examples of the Socket.IO protocol 5 document, section "Packet encoding", with the
+//! frames of its sample session; and the bounds of each part.
 ghost use Rattle.aud_sio.specs.Packet.{IsSpelled, packet_view};
 
 use aud_sio::{Packet, Scratch, decode, decode_with, encode, last_text};
 use std::alloc::Global;
 use std::test::Fail;
 
-/// Whether the packet has this kind, count of attachments, namespace, acknowledgement id, payload and text at its end,
-/// and is written so.
+/// Whether the packet has this kind, count of attachments, namespace, acknowledgement id, payload and text at its
+/// end, and is written so.
 fn is_packet(alloc: Global, packet: &Packet<'_>, parts: &str, written: &str) -> Result<bool, Fail>
     requires { IsSpelled (packet_view packet.now) }
 {
@@ -24,8 +24,8 @@ fn is_packet(alloc: Global, packet: &Packet<'_>, parts: &str, written: &str) -> 
     Ok(read.as_str() == parts && text.as_str() == written)
 }
 
-/// Whether a text's packet, read with memory that other texts were read with, has these parts and is written so, or the
-/// text is refused for this.
+/// Whether a text's packet, read with memory that other texts were read with, has these parts and is written so, or
+/// the text is refused for this.
 fn is_read(
     alloc: Global,
     scratch: &mut Scratch,

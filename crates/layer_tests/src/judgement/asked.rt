@@ -2,16 +2,16 @@
 //!
 //! | question | what it asks for |
 //! |---|---|
-//! | `entry 1-0` | where the entry with this offset stands in the stream, and how many entries stand before the one that is known by its text, by its guess and by a wrong one |
-//! | `addressees / r` | the entries of the namespace that name the room, those for all of it, and those that except the room |
-//! | `tap a` | the place of the tap of this name, those of the nodes and clients that name it as a session, and the node's cursors |
-//! | `turns` | turn 0 of the session `P` on `a` and its turn 1 on `b`, the spans by these, and what is due by the spans |
-//! | `walked a` | the spans of the session `P`, with the sid `s1`, by the records of `a`, each at its number as the cursor |
+//! | `entry 1-0` | where the entry with this offset stands, and the one that is known by its text |
+//! | `addressees / r` | the entries that name the room, those for all of the namespace, and those that except the room |
+//! | `tap a` | the place of this tap, those of taps that name it as a session, and the node's cursors |
+//! | `turns` | turn 0 of the session `P` on `a` and its turn 1 on `b`, the spans by these, and what is due |
+//! | `walked a` | the spans of the session `P` by the records of `a`, each at its number as the cursor |
 //! | `addressed / r` | the entries for a session in the namespace that was in `s1` and `r`, and left this room |
 //! | `order` | the run that is shown, or the records that block |
 //! | `packets c1` | the packets of the client's tap, connection by connection |
 //! | `client c1` | a line for each stay of the client's tap, and what else it tells |
-//! | `sessions` | the sessions that nodes name, and all; of each its verdict, and its certificate, as it is written and checked |
+//! | `sessions` | the sessions, their verdicts, and their certificates, written, read and checked |
 use crate::given::taps_of;
 use crate::judgement::cases::CASES;
 use crate::judgement::{clients, logs, rooms, sessions, taps};

@@ -1,9 +1,9 @@
 //! Bundles of a small cluster, what is asked of their stream, nodes, rooms, runs and sessions, and the answers.
 
 pub static CASES: [&str; 7] = [
-    // Of the last five but one none is sent again: it has an acknowledgement id; its packet is of another namespace; it
-    // has no offset; it has an attachment too few. A room that is named twice counts once; an event that isn't sent again
-    // is addressed to nobody.
+    // Of the last five but one none is sent again: it has an acknowledgement id; its packet is of another namespace;
+    // it has no offset; it has an attachment too few. A room that is named twice counts once; an event that isn't
+    // sent again is addressed to nobody.
     r#"st {"k":"tap","v":1,"of":"stream"}
 st {"k":"ev","off":"1-0","nsp":"/","rooms":["r"],"except":["q"],"text":"2[\"hi\",\"1-0\"]"}
 st {"k":"ev","off":"2-0","nsp":"/","rooms":["r","q","r"],"text":"2[\"hi\",\"2-0\"]"}
@@ -47,9 +47,9 @@ st {"k":"ev","off":"1-A","nsp":"/","text":"2[\"hi\",\"1-A\"]"}
 1-A at 3 of 3, sent again true 2 2
 ? entry 1-Q
 nowhere"#,
-    // The session `P` goes from `a` to `b` and back, twice. Node `c` takes an entry before an earlier one. A node is of a
-    // session that one of its records names, whichever that is. The taps of the nodes `v`, `w` and `x` are of version 2:
-    // `v` takes all entries, `w` up to where its cursor stands, and `x` back.
+    // The session `P` goes from `a` to `b` and back, twice. Node `c` takes an entry before an earlier one. A node is
+    // of a session that one of its records names, whichever that is. The taps of the nodes `v`, `w` and `x` are of
+    // version 2: `v` takes all entries, `w` up to where its cursor stands, and `x` back.
     r#"st {"k":"tap","v":1,"of":"stream"}
 st {"k":"ev","off":"1-0","nsp":"/","text":"2[\"hi\",\"1-0\"]"}
 st {"k":"ev","off":"2-0","nsp":"/","text":"2[\"hi\",\"2-0\"]"}
@@ -113,9 +113,9 @@ place Some(7), nodes [], clients [], cursors 0 3 3 4, in order false, own []
 place None, nodes [1, 2, 4], clients []
 ? tap Q
 place None, nodes [3, 4], clients []"#,
-    // `P` holds `r` at 1, leaves it, holds `q` from 2 over its break to 4, and `r` again at 4 and at 6. Position 3 was sent
-    // before the session came to `b`: it is judged by the rooms that the session came with. What another session joins
-    // and leaves changes nothing.
+    // `P` holds `r` at 1, leaves it, holds `q` from 2 over its break to 4, and `r` again at 4 and at 6. Position 3
+    // was sent before the session came to `b`: it is judged by the rooms that the session came with. What another
+    // session joins and leaves changes nothing.
     r#"st {"k":"tap","v":1,"of":"stream"}
 st {"k":"ev","off":"1-0","nsp":"/","rooms":["r"],"text":"2[\"hi\",\"1-0\"]"}
 st {"k":"ev","off":"2-0","nsp":"/","rooms":["r"],"text":"2[\"hi\",\"2-0\"]"}
@@ -199,8 +199,8 @@ b {"k":"take","off":"1-0"}
 blocked b 1
 blocked=1
 "#,
-    // The session `P` breaks on node `a` and is recovered on node `b`; a third event comes too late for both. `Q` has no
-    // client, and only a client names `R`.
+    // The session `P` breaks on node `a` and is recovered on node `b`; a third event comes too late for both. `Q` has
+    // no client, and only a client names `R`.
     r#"st {"k":"tap","v":1,"of":"stream"}
 st {"k":"ev","off":"1-0","nsp":"/","rooms":["r"],"text":"2[\"hi\",\"1-0\"]"}
 st {"k":"ev","off":"2-0","nsp":"/","rooms":["r"],"text":"2[\"hi\",\"2-0\"]"}

@@ -39,8 +39,9 @@ pub fn tell_client(recording: &Recording<'_>, alloc: Global, name: &str, out: &m
     }
 }
 
-/// The connection, the namespace, the reply, the pid and the offset that were asked for, whether they were given, and the
-/// positions of the frames; then the records at which its first and last packet stand, the ask, the reply and the frames.
+/// The connection, the namespace, the reply, the pid and the offset that were asked for, whether they were given, and
+/// the positions of the frames; then the records at which its first and last packet stand, the ask, the reply and the
+/// frames.
 fn tell_stay(stream: &Stream<'_>, stay: &Stay<'_>, places: &StayPlaces, out: &mut Told) {
     out.show(&stay.c);
     out.text(" ");
@@ -116,8 +117,8 @@ pub fn tell_packets(logs: &Logs<'_>, alloc: Global, name: &str, out: &mut Told) 
     }
 }
 
-/// The record at which the packet stands, its kind and its namespace; of one from the server its text and attachments,
-/// and what it tells, if it is a reply.
+/// The record at which the packet stands, its kind and its namespace; of one from the server its text and
+/// attachments, and what it tells, if it is a reply.
 fn tell_placed(placed: &Placed<'_>, alloc: Global, out: &mut Told) {
     out.text("\n");
     out.show(&placed.number);

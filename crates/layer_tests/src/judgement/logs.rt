@@ -7,8 +7,8 @@ use aud_node::{Logs, NodeLog, Stream};
 use aud_tap::StreamRec;
 use std::alloc::Global;
 
-/// The offset of the entry, its position, of how many, whether it is sent again; and how many entries stand before the
-/// event that is known by its text: by the guess, and by a wrong one.
+/// The offset of the entry, its position, of how many, whether it is sent again; and how many entries stand before
+/// the event that is known by its text: by the guess, and by a wrong one.
 pub fn tell_entry(stream: &Stream<'_>, off: &str, out: &mut Told) {
     let position = stream.position(off).unwrap_or(0);
     let Some(entry) = stream.entry(position) else {
@@ -32,8 +32,8 @@ pub fn tell_entry(stream: &Stream<'_>, off: &str, out: &mut Told) {
     }
 }
 
-/// The positions of the entries of the namespace that name the room, of those for the whole namespace, and of those of
-/// any that except the room.
+/// The positions of the entries of the namespace that name the room, of those for the whole namespace, and of those
+/// of any that except the room.
 pub fn tell_addressees(stream: &Stream<'_>, of: &str, out: &mut Told) {
     let (nsp, room) = cut(of);
     out.debug(&stream.positions(nsp, room));
@@ -48,8 +48,8 @@ pub fn log_named<'l, 'a>(logs: &'l Logs<'a>, name: &str) -> Option<&'l NodeLog<'
     logs.node(logs.place_of(name)?)
 }
 
-/// The place of the tap of this name, and those of the nodes and of the clients that name the session of this pid. Of a
-/// node the cursors after its records, whether these are in order, and the numbers of those of the session `P`.
+/// The place of the tap of this name, and those of the nodes and of the clients that name the session of this pid. Of
+/// a node the cursors after its records, whether these are in order, and the numbers of those of the session `P`.
 pub fn tell_tap(recording: &Recording<'_>, name: &str, out: &mut Told) {
     let logs = recording.logs();
     out.text("place");
@@ -87,8 +87,8 @@ pub fn tell_order(logs: &Logs<'_>, alloc: Global, out: &mut Told) {
     }
 }
 
-/// Whether the steps are a run, and without the last one; and where the session `P` is after them, its turn, and whether
-/// it is in `s1` and in `r`.
+/// Whether the steps are a run, and without the last one; and where the session `P` is after them, its turn, and
+/// whether it is in `s1` and in `r`.
 fn tell_run(logs: &Logs<'_>, alloc: Global, steps: &[Step], out: &mut Told) {
     let shorter = &steps[..steps.len().saturating_sub(1)];
     out.debug(&is_run(alloc, logs, steps).is_ok_and(|is| is));

@@ -32,8 +32,8 @@ fn turn(logs: &Logs<'_>, name: &str, number: u16) -> Option<TurnPlace>
     })
 }
 
-/// The place of the turn's node, its records, its first and last cursor, and the numbers of the records of the session
-/// `P`, and how many records it has after its first.
+/// The place of the turn's node, its records, its first and last cursor, and the numbers of the records of the
+/// session `P`, and how many records it has after its first.
 fn tell_turn(logs: &Logs<'_>, turn: &TurnPlace, number: u16, out: &mut Told)
     requires { IsInOrder logs.now turn.now }
 {
@@ -115,8 +115,8 @@ fn walked<'a>(alloc: Global, recs: Recs<'a>) -> Result<Vec<Span<'a>>, AllocError
     builder.finish()
 }
 
-/// Whether `r` is held, and the positions of the entries for a session in this namespace, after it joined `s1` and `r`
-/// and left this room.
+/// Whether `r` is held, and the positions of the entries for a session in this namespace, after it joined `s1` and
+/// `r` and left this room.
 pub fn tell_addressed(stream: &Stream<'_>, alloc: Global, of: &str, out: &mut Told) {
     let (nsp, left) = cut(of);
     let mut rooms = RoomSet::new(alloc);
