@@ -22,7 +22,7 @@ fn lines_of_bytes(alloc: Global, input: &[u8]) -> Result<Lines, ReadFault> {
 fn has_lines(alloc: Global, input: &str, wanted: &[&str]) -> Result<bool, ReadFault> {
     let lines = lines_of_bytes(alloc, input.as_bytes())?;
     let lent = lines.lent()?;
-    for (i, (line, text)) in lent.iter().zip(wanted).enumerate() {
+    for (i, (line, text)) in lent.iter().zip(wanted.iter()).enumerate() {
         if line.number != i as u64 + 1 || line.bytes != text.as_bytes() {
             return Ok(false);
         }
