@@ -18,16 +18,15 @@ fn lines_of_bytes(alloc: Global, input: &[u8]) -> Result<Lines, ReadFault> {
     Ok(lines)
 }
 
-/// Whether an input has these lines, numbered from 1.
-fn has_lines(alloc: Global, input: &str, wanted: &[&str]) -> Result<bool, ReadFault> {
-    let lines = lines_of_bytes(alloc, input.as_bytes())?;
-    let lent = lines.lent()?;
-    for (i, (line, text)) in lent.iter().zip(wanted.iter()).enumerate() {
+/// Whether the lines have these texts, and are numbered from 1.
+fn are(lines: &Lines, texts: &[&str]) -> Result<bool, AllocError> {
+    let lines = lines.lent()?;
+    for (i, (line, text)) in lines.iter().zip(texts.iter()).enumerate() {
         if line.number != i as u64 + 1 || line.bytes != text.as_bytes() {
             return Ok(false);
         }
     }
-    Ok(lines.len() == wanted.len())
+    Ok(lines.len() == texts.len())
 }
 
 /// Inputs, and their lines.
@@ -42,7 +41,8 @@ static INPUTS: [(&str, &[&str]); 4] = [
 #[test]
 fn lines_end_at_newlines(rt: HostRuntime) -> Result<(), Fail> {
     for (input, wanted) in &INPUTS {
-        assert!(rt; has_lines(rt.alloc(), input, wanted)?, "{input:?}");
+        let lines = lines_of_bytes(rt.alloc(), input.as_bytes())?;
+        assert!(rt; are(&lines, wanted)?, "{input:?}");
     }
     assert!(rt; next_line(b"a\r\nb\n") == Some((b"a\r".as_slice(), b"b\n".as_slice())));
     assert!(rt; next_line(b"ab").is_none());

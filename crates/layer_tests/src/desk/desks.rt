@@ -11,13 +11,13 @@ use std::thread::{Threads, map_vec};
 
 /// How lines are posted.
 #[derive(Drop)]
-pub enum Way<'a> {
+pub enum Way<'p, 'a> {
     /// Those of the bundle by one thread, each time the next of the seat at the next place.
-    InOrder(&'a [usize]),
+    InOrder(&'p [usize]),
     /// Those of the bundle, up to so many of each tap, by a thread for each seat.
     ByThreads(usize),
     /// These from the last seat, each with why it is refused, where it is.
-    Each(&'a [(&'a [u8], Option<PostFault>)]),
+    Each(&'p [(&'a [u8], Option<PostFault>)]),
 }
 
 /// Posts the line of the bundle that comes after those that were posted from the seat, if there is one.
@@ -123,7 +123,7 @@ fn posted<'a, L: Posts + Send + Sync, R: Threads + Wait + Sync>(
     alloc: Global,
     desk: Desk<'a, L>,
     seats: Vec<TapSeat<'a, L>>,
-    way: &Way<'a>,
+    way: &Way<'_, 'a>,
 ) -> Result<Posted<'a>, &'static str> {
     let shared = &desk;
     let seats = match way {
@@ -153,7 +153,7 @@ fn open<'a, L: Posts + Send + Sync, R: Threads + Wait + Sync>(
     alloc: Global,
     blank: Blank,
     names: &[&'a str],
-    way: &Way<'a>,
+    way: &Way<'_, 'a>,
 ) -> Result<Result<Posted<'a>, &'static str>, DeskFault>
     requires name { blank.name ≡ L.name }
     requires parts { (blank.parts ≡ L.parts) × (blank.parts ≡ length names.now)
@@ -168,7 +168,7 @@ pub fn at_desk<'a, R: Threads + Wait + Sync>(
     rt: &R,
     alloc: Global,
     names: &[&'a str],
-    way: &Way<'a>,
+    way: &Way<'_, 'a>,
 ) -> Result<Result<Posted<'a>, &'static str>, DeskFault> {
     open::<Brand, R>(rt, alloc, Blank::new(names.len() as u64), names, way)
 }

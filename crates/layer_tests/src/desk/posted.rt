@@ -37,7 +37,7 @@ fn report_on_posted<R: Threads + Wait + Clock + RandomSource + Sync>(
 }
 
 /// The orders in which one thread posts the whole bundle, and then three threads.
-static WAYS: [Way<'static>; 4] = [
+static WAYS: [Way<'static, 'static>; 4] = [
     Way::InOrder(&[2, 2, 2, 2, 1, 1, 1, 1, 1, 0, 0]),
     Way::InOrder(&[1, 2, 0, 1, 2, 1, 2, 1, 2, 1, 0]),
     Way::InOrder(&[2, 0, 1, 1, 2, 2, 1, 1, 0, 1, 2]),
