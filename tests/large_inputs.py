@@ -121,6 +121,12 @@ def named_by_taps() -> Iterator[str]:
         yield from client(f"c{it}", "P", "s1")
 
 
+def refused_lines() -> Iterator[str]:
+    """More lines than are read at a time, two of which are no JSON."""
+    yield NODE[0]
+    yield from ("a {" if it in (30_000, 39_000) else f'a {{"k":"take","off":"{it % 700}"}}' for it in range(2, 40_001))
+
+
 def text_of(lines: Iterable[str]) -> bytes:
     return "".join(f"{it}\n" for it in lines).encode()
 
@@ -138,6 +144,7 @@ MAKERS: dict[str, Callable[[], bytes]] = {
     "longest_line_without_an_end": lambda: header_of(LONGEST_LINE, ""),
     "nine_thousand_entries": lambda: text_of(many_entries()),
     "nine_thousand_entries_prove": lambda: text_of(many_entries()),
+    "refused_line_of_many": lambda: text_of(refused_lines()),
     "three_thousand_idle_sessions_prove": lambda: text_of(idle_sessions()),
     "three_thousand_idle_sessions_verify": lambda: text_of(certified_sessions()),
     "version_3_before_a_line_too_long": lambda: too_long_after(STREAM.replace('"v":1', '"v":3') + "\n"),

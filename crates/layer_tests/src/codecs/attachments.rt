@@ -1,78 +1,52 @@
 //! Packets with attachments: the examples of the Socket.IO protocol 5 document, and refusals in their order.
-use aud_eio::{Eio, EioFault, decode_binary, decode_text};
+use crate::told::Told;
+use aud_eio::{decode_binary, decode_text};
 use aud_sio::{Assembler, SioFault, Whole, answers_are_wholes};
-use std::alloc::{AllocError, Global};
+use std::alloc::Global;
 use std::test::Fail;
 
-/// Writes a packet's text, namespace and acknowledgement id, and its attachments.
-fn push_whole(words: &mut String, whole: &Whole<'_>) -> Result<(), AllocError> {
-    write!(
-        words,
-        "{} of {} {:?}",
-        whole.text, whole.packet.nsp, whole.packet.id
-    )?;
-    for blob in &whole.bin {
-        write!(words, " {:?}", blob.as_slice())?;
-    }
-    words.push('\n')
-}
-
-/// Writes what an assembler answered, as a line.
-fn push_answer(
-    words: &mut String,
-    answer: Result<Option<Whole<'_>>, SioFault>,
-) -> Result<(), AllocError> {
+/// Writes, on a line, what an assembler answered: of a packet its text, namespace, acknowledgement id and
+/// attachments.
+fn tell_answer(answer: &Result<Option<Whole<'_>>, SioFault>, out: &mut Told) {
     match answer {
-        Ok(Some(whole)) => push_whole(words, &whole),
-        Ok(None) => words.push_str("waits\n"),
-        Err(fault) => writeln!(words, "{fault:?}"),
+        Ok(Some(whole)) => {
+            out.text(whole.text);
+            out.text(" of ");
+            out.text(whole.packet.nsp);
+            out.debug(&whole.packet.id);
+            for blob in &whole.bin {
+                out.debug(&blob.as_slice());
+            }
+        }
+        Ok(None) => out.text("waits"),
+        Err(fault) => out.debug(fault),
     }
+    out.text("\n");
 }
 
-/// A message of WebSocket.
-#[derive(Clone, Copy)]
-enum Frame<'a> {
-    Text(&'a str),
-    Binary(&'a [u8]),
-}
-
-fn packet_of(alloc: Global, frame: Frame<'_>) -> Result<Eio<'_>, EioFault> {
-    match frame {
-        Frame::Text(text) => decode_text(alloc, text),
-        Frame::Binary(bytes) => Ok(decode_binary(bytes)),
+/// What a new assembler answers to the messages of a session.
+fn answers(alloc: Global, session: &[(&'static str, &'static [u8])]) -> Result<String, Fail> {
+    let mut out = Told::new(alloc);
+    let mut assembler = Assembler::new(alloc);
+    for (text, bytes) in session {
+        let packet = match *text {
+            "" => decode_binary(bytes),
+            text => decode_text(alloc, text)?,
+        };
+        tell_answer(&assembler.feed(packet), &mut out);
     }
+    Ok(out.finish()?)
 }
 
-/// Writes what an assembler answers to the messages of a session.
-fn push_answers<'a>(
-    alloc: Global,
-    words: &mut String,
-    assembler: &mut Assembler<'a>,
-    session: &[Frame<'a>],
-) -> Result<(), Fail> {
-    for frame in session {
-        let packet = packet_of(alloc, *frame)?;
-        push_answer(words, assembler.feed(packet))?;
-    }
-    Ok(())
-}
-
-/// Whether a new assembler gives these answers to a session, each on a line.
-fn answers(alloc: Global, session: &[Frame<'_>], expected: &str) -> Result<bool, Fail> {
-    let mut words = String::new(alloc);
-    push_answers(alloc, &mut words, &mut Assembler::new(alloc), session)?;
-    Ok(words.as_str() == expected)
-}
-
-/// Sessions, and what is answered to them.
-static SESSIONS: [(&[Frame<'static>], &str); 4] = [
+/// The messages of sessions, and what is answered to them: a text, or, where it is empty, bytes.
+static SESSIONS: [(&[(&str, &[u8])], &str); 4] = [
     // the document's sample session in namespace `/admin`: a packet whose attachment comes after a ping
     (
         &[
-            Frame::Text(r#"40/admin,{"sid":"-G5j-67EZFp-q59rADQM"}"#),
-            Frame::Text(r#"461-/admin,1[{"_placeholder":true,"num":0}]"#),
-            Frame::Text("2"),
-            Frame::Binary(&[1, 2, 3]),
+            (r#"40/admin,{"sid":"-G5j-67EZFp-q59rADQM"}"#, &[]),
+            (r#"461-/admin,1[{"_placeholder":true,"num":0}]"#, &[]),
+            ("2", &[]),
+            ("", &[1, 2, 3]),
         ],
         "0/admin,{\"sid\":\"-G5j-67EZFp-q59rADQM\"} of /admin None\nwaits\nwaits\n\
          61-/admin,1[{\"_placeholder\":true,\"num\":0}] of /admin Some(1) [1, 2, 3]\n",
@@ -80,11 +54,12 @@ static SESSIONS: [(&[Frame<'static>], &str); 4] = [
     // the first attachment comes as base64, the other as bytes
     (
         &[
-            Frame::Text(
+            (
                 r#"452-["baz",{"_placeholder":true,"num":0},{"_placeholder":true,"num":1}]"#,
+                &[],
             ),
-            Frame::Text("bAQID"),
-            Frame::Binary(&[4]),
+            ("bAQID", &[]),
+            ("", &[4]),
         ],
         "waits\nwaits\n52-[\"baz\",{\"_placeholder\":true,\"num\":0},{\"_placeholder\":true,\"num\":1}] \
          of / None [1, 2, 3] [4]\n",
@@ -92,10 +67,10 @@ static SESSIONS: [(&[Frame<'static>], &str); 4] = [
     // the packets of the document's polling bodies
     (
         &[
-            Frame::Text(r#"42["hello"]"#),
-            Frame::Text(r#"42["world"]"#),
-            Frame::Text(r#"451-["baz",{"_placeholder":true,"num":0}]"#),
-            Frame::Text("bAQIDBA=="),
+            (r#"42["hello"]"#, &[]),
+            (r#"42["world"]"#, &[]),
+            (r#"451-["baz",{"_placeholder":true,"num":0}]"#, &[]),
+            ("bAQIDBA==", &[]),
         ],
         "2[\"hello\"] of / None\n2[\"world\"] of / None\nwaits\n\
          51-[\"baz\",{\"_placeholder\":true,\"num\":0}] of / None [1, 2, 3, 4]\n",
@@ -103,14 +78,14 @@ static SESSIONS: [(&[Frame<'static>], &str); 4] = [
     // refusals in their order; after them the assembler is at rest
     (
         &[
-            Frame::Text(r#"451-["f","x"]"#),
-            Frame::Text("2"),
-            Frame::Text("42[]"),
-            Frame::Binary(&[1]),
-            Frame::Text("47"),
-            Frame::Text("450-[]"),
+            (r#"451-["f","x"]"#, &[]),
+            ("2", &[]),
+            ("42[]", &[]),
+            ("", &[1]),
+            ("47", &[]),
+            ("450-[]", &[]),
         ],
-        "waits\nwaits\nTextWhileBinary\nStrayBinary\nUnknownType\n50-[] of / None\n",
+        "waits\nwaits\n TextWhileBinary\n StrayBinary\n UnknownType\n50-[] of / None\n",
     ),
 ];
 
@@ -118,7 +93,8 @@ static SESSIONS: [(&[Frame<'static>], &str); 4] = [
 fn sessions(rt: HostRuntime) -> Result<(), Fail> {
     answers_are_wholes();
     for (session, expected) in &SESSIONS {
-        assert!(rt; answers(rt.alloc(), session, expected)?, "{expected}");
+        let answers = answers(rt.alloc(), session)?;
+        assert_eq!(rt; answers.as_str(), *expected);
     }
     Ok(())
 }

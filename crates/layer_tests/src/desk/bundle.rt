@@ -1,92 +1,56 @@
-//! The bundle of `examples/bundle_a.jsonl`: its lines, each without the name of its tap, and the report on it; and the
-//! taps of a bundle.
-ghost use Rattle.std.specs.Prelude.{IfOk};
-ghost use Rattle.aud_tap.specs.Names.{AreNamedOnce};
+//! Two bundles, and the reports on them.
 
-use aud_reader::{LentLine, Lines, read_bundle};
-use aud_tap::Taps;
-use std::alloc::{AllocError, Global};
-use std::hash::RandomState;
-use std::test::Fail;
+/// `examples/bundle_a.jsonl`: a session of one node, whose client receives the only event.
+pub const ONE_SESSION: &str = r#"st {"k":"tap","v":1,"of":"stream"}
+st {"k":"ev","off":"1-0","nsp":"/","rooms":["r"],"text":"2[\"hi\",\"1-0\"]"}
+a {"k":"tap","v":1,"of":"node"}
+a {"k":"start","off":null}
+a {"k":"open","pid":"P","sid":"s1","nsp":"/"}
+a {"k":"join","pid":"P","room":"r"}
+a {"k":"take","off":"1-0"}
+c1 {"k":"tap","v":1,"of":"client"}
+c1 {"k":"conn","c":1}
+c1 {"k":"in","t":"40{\"sid\":\"s1\",\"pid\":\"P\"}"}
+c1 {"k":"in","t":"42[\"hi\",\"1-0\"]"}
+"#;
 
-/// The lines of the stream's tap.
-pub const STREAM: [&[u8]; 2] = [
-    br#"{"k":"tap","v":1,"of":"stream"}"#,
-    br#"{"k":"ev","off":"1-0","nsp":"/","rooms":["r"],"text":"2[\"hi\",\"1-0\"]"}"#,
-];
-
-/// Those of the node's.
-pub const NODE: [&[u8]; 5] = [
-    br#"{"k":"tap","v":1,"of":"node"}"#,
-    br#"{"k":"start","off":null}"#,
-    br#"{"k":"open","pid":"P","sid":"s1","nsp":"/"}"#,
-    br#"{"k":"join","pid":"P","room":"r"}"#,
-    br#"{"k":"take","off":"1-0"}"#,
-];
-
-/// What the client's tap tells of the reply to its connection.
-pub const REPLY: &[u8] = br#"{"k":"in","t":"40{\"sid\":\"s1\",\"pid\":\"P\"}"}"#;
-
-/// What it tells of the event.
-pub const EVENT: &[u8] = br#"{"k":"in","t":"42[\"hi\",\"1-0\"]"}"#;
-
-/// The lines of the client's tap.
-pub const CLIENT: [&[u8]; 4] = [
-    br#"{"k":"tap","v":1,"of":"client"}"#,
-    br#"{"k":"conn","c":1}"#,
-    REPLY,
-    EVENT,
-];
-
-/// The names of the taps of the bundle, in the order of their first lines.
-pub const NAMES: [&str; 3] = ["st", "a", "c1"];
-
-/// What is written for the bundle.
+/// What is written for it.
 pub const REPORT: &str = "yes P got=1 tail=0 turns=1\nsessions=1 yes=1 no=0\n";
 
-/// The lines of the tap of this name.
-pub fn lines_of(name: &str) -> &'static [&'static [u8]] {
-    match name {
-        "st" => &STREAM,
-        "a" => &NODE,
-        "c1" => &CLIENT,
-        _ => &[],
-    }
-}
+/// Two sessions, of which the event leaves out the first.
+pub const TWO_SESSIONS: &str = r#"st {"k":"tap","v":1,"of":"stream"}
+st {"k":"ev","off":"1-0","nsp":"/","rooms":[],"except":["s1"],"text":"2[\"hi\",\"1-0\"]"}
+a {"k":"tap","v":1,"of":"node"}
+a {"k":"start","off":null}
+a {"k":"open","pid":"P","sid":"s1","nsp":"/"}
+a {"k":"open","pid":"Q","sid":"s2","nsp":"/"}
+a {"k":"take","off":"1-0"}
+c1 {"k":"tap","v":1,"of":"client"}
+c1 {"k":"conn","c":1}
+c1 {"k":"in","t":"40{\"sid\":\"s1\",\"pid\":\"P\"}"}
+c2 {"k":"tap","v":1,"of":"client"}
+c2 {"k":"conn","c":1}
+c2 {"k":"in","t":"40{\"sid\":\"s2\",\"pid\":\"Q\"}"}
+c2 {"k":"in","t":"42[\"hi\",\"1-0\"]"}
+"#;
 
-/// The name of a tap, and lines of it.
-pub type Part = (&'static str, &'static [&'static [u8]]);
+/// What is written for these.
+pub const REPORT_OF_TWO: &str =
+    "yes P got=0 tail=0 turns=1\nyes Q got=1 tail=0 turns=1\nsessions=2 yes=2 no=0\n";
 
-/// Appends a line of the tap of this name.
-fn push_line(alloc: Global, lines: &mut Lines, name: &str, json: &[u8]) -> Result<(), AllocError> {
-    let number = (lines.len() as u64).saturating_add(1);
-    let mut bytes = name.as_bytes().to_vec(alloc)?;
-    bytes.push(b' ')?;
-    bytes.extend_from_slice(json)?;
-    lines.push(&LentLine {
-        number,
-        bytes: &bytes,
-    })
-}
-
-/// The first lines of these parts, so many at most.
-fn first_lines(alloc: Global, parts: &[Part], most: usize) -> Result<Lines, AllocError> {
-    let mut lines = Lines::new(alloc);
-    for (name, texts) in parts {
-        for json in *texts {
-            if lines.len() < most {
-                push_line(alloc, &mut lines, name, json)?;
+/// The line of this number, from 0, of the bundle's tap of this name, without the name and the blank after it.
+pub fn line_at(name: &str, number: usize) -> Option<&'static [u8]> {
+    let mut left = number;
+    for line in ONE_SESSION.lines() {
+        match line.split_once(' ') {
+            Some((own, json)) if own == name => {
+                if left == 0 {
+                    return Some(json.as_bytes());
+                }
+                left -= 1;
             }
+            _ => {}
         }
     }
-    Ok(lines)
-}
-
-/// The taps of the first lines of these parts, so many at most.
-pub fn taps_of(alloc: Global, keys: RandomState, parts: &[Part], most: usize) -> Result<Taps, Fail>
-    ensures { IfOk result (λ taps. AreNamedOnce taps) }
-{
-    let lines = first_lines(alloc, parts, most)?;
-    let taps = read_bundle(alloc, keys, &lines)?;
-    Ok(taps)
+    None
 }

@@ -1,10 +1,8 @@
 //! Reports: the same by any number of workers, and with a gate that opens only where two workers are at work at once.
 ghost use Rattle.aud_tap.specs.Names.{AreNamedOnce};
 
-use crate::desk::bundle;
-use crate::desk::bundle::{Part, taps_of};
-use crate::desk::sockets::BUNDLE;
-use crate::desk::two_sessions::{REPORT, REPORT_OF_WHOLE, TWO_SESSIONS};
+use crate::desk::bundle::{ONE_SESSION, REPORT, REPORT_OF_TWO, TWO_SESSIONS};
+use crate::given::taps_of;
 use aud_client::Recording;
 use aud_desk::{AuditFault, Gate, OpenGate, audit_with};
 use aud_tap::Taps;
@@ -12,7 +10,6 @@ use aud_verdict::report_on;
 use std::alloc::Global;
 use std::hash::RandomState;
 use std::mem::ManuallyDrop;
-use std::process::Abort;
 use std::random::RandomSource;
 use std::sync::Wait;
 use std::sync::atomic::AtomicBool;
@@ -22,98 +19,36 @@ use std::thread;
 use std::thread::Threads;
 use std::time::{Clock, Duration};
 
-/// What an audit has to give.
-pub enum Expected {
-    /// So many answers of yes, so many of no, and this text.
-    Report(usize, usize, &'static str),
-    /// No report: there are none or too many workers.
-    Workers,
-}
-
-/// What it has to give on the bundle of one session.
-pub const ONE_YES: Expected = Expected::Report(1, 0, bundle::REPORT);
-
-/// Fails where so many workers behind this gate give anything else on these taps.
-pub fn audit<G: Gate + Sync, R: Threads + Wait + Clock + RandomSource + Abort + Sync>(
+/// The report of so many workers behind this gate; nothing where there are none or too many.
+pub fn report<G: Gate + Sync, R: Threads + Wait + Clock + RandomSource + Sync>(
     taps: &Taps,
     rt: &R,
     alloc: Global,
     workers: usize,
     whole: bool,
-    expected: &Expected,
     gate: &G,
-) -> Result<(), Fail>
+) -> Result<String, Fail>
     requires { AreNamedOnce taps.now }
 {
     let keys = RandomState::new(rt)?;
     let recording = ManuallyDrop::new(Recording::read(rt, alloc, keys, 2, taps)?);
-    let audited = ManuallyDrop::new(audit_with(rt, alloc, &recording, workers, whole, gate));
-    match (&*audited, expected) {
-        (Ok(report), Expected::Report(yes, no, text)) => {
-            let output = report_on(alloc, &report.verdicts)?;
-            assert_eq!(rt;
-                (report.yes, report.no, output.text.as_str()),
-                (*yes, *no, *text)
-            );
-            Ok(())
-        }
-        (Err(AuditFault::Workers), Expected::Workers) => Ok(()),
-        _ => Err(Fail::new("a report, and none, are expected")),
+    match audit_with(rt, alloc, &recording, workers, whole, gate) {
+        Ok(report) => Ok(report_on(alloc, &report.verdicts)?.text),
+        Err(AuditFault::Workers) => Ok(String::new(alloc)),
+        Err(_) => Err(Fail::new("an audit")),
     }
 }
 
-/// An audit of the first lines of a bundle.
-struct Row {
-    parts: &'static [Part],
-    lines: usize,
-    workers: usize,
-    whole: bool,
-    expected: Expected,
-}
-
-const RECEIVED: Expected = Expected::Report(2, 0, REPORT);
-
-const NEVER_CAME: Expected = Expected::Report(1, 1, REPORT_OF_WHOLE);
-
-#[rattlefmt::skip]
-static ROWS: [Row; 8] = [
-    Row { parts: &TWO_SESSIONS, lines: 14, workers: 1, whole: false, expected: RECEIVED },
-    Row { parts: &TWO_SESSIONS, lines: 14, workers: 2, whole: false, expected: RECEIVED },
-    Row { parts: &TWO_SESSIONS, lines: 14, workers: 64, whole: false, expected: RECEIVED },
-    Row { parts: &TWO_SESSIONS, lines: 13, workers: 1, whole: true, expected: NEVER_CAME },
-    Row { parts: &TWO_SESSIONS, lines: 13, workers: 2, whole: true, expected: NEVER_CAME },
-    Row { parts: &TWO_SESSIONS, lines: 14, workers: 0, whole: false, expected: Expected::Workers },
-    Row { parts: &TWO_SESSIONS, lines: 14, workers: 65, whole: false, expected: Expected::Workers },
-    Row { parts: &BUNDLE, lines: 12, workers: 1, whole: false, expected: ONE_YES },
+/// A bundle, how many workers, whether the whole is asked for, and the report.
+static ROWS: [(&str, usize, bool, &str); 7] = [
+    (TWO_SESSIONS, 1, false, REPORT_OF_TWO),
+    (TWO_SESSIONS, 2, false, REPORT_OF_TWO),
+    (TWO_SESSIONS, 64, false, REPORT_OF_TWO),
+    (TWO_SESSIONS, 2, true, REPORT_OF_TWO),
+    (ONE_SESSION, 1, true, REPORT),
+    (TWO_SESSIONS, 0, false, ""),
+    (TWO_SESSIONS, 65, false, ""),
 ];
-
-/// Fails where the audit behind this gate gives anything else.
-fn audit_row<G: Gate + Sync, R: Threads + Wait + Clock + RandomSource + Abort + Sync>(
-    rt: &R,
-    alloc: Global,
-    row: &Row,
-    gate: &G,
-) -> Result<(), Fail> {
-    let keys = RandomState::new(rt)?;
-    let taps = ManuallyDrop::new(taps_of(alloc, keys, row.parts, row.lines)?);
-    audit(
-        &taps,
-        rt,
-        alloc,
-        row.workers,
-        row.whole,
-        &row.expected,
-        gate,
-    )
-}
-
-#[test]
-fn any_number_of_workers_gives_one_report(rt: HostRuntime) -> Result<(), Fail> {
-    for row in &ROWS {
-        audit_row(&rt, rt.alloc(), row, &OpenGate)?;
-    }
-    Ok(())
-}
 
 /// Holds index 0 until the entry of index 1 is kept, for at most 10,000 turns of a millisecond.
 #[derive(Drop)]
@@ -146,13 +81,21 @@ impl Gate for Held {
 }
 
 #[test]
-fn two_workers_are_at_work_at_once(rt: HostRuntime) -> Result<(), Fail> {
+fn any_number_of_workers_gives_one_report(rt: HostRuntime) -> Result<(), Fail> {
+    let (alloc, keys) = (rt.alloc(), RandomState::new(&rt)?);
+    for (bundle, workers, whole, wanted) in &ROWS {
+        let taps = ManuallyDrop::new(taps_of(alloc, keys, bundle)?);
+        let report = report(&taps, &rt, alloc, *workers, *whole, &OpenGate)?;
+        assert_eq!(rt; report.as_str(), *wanted);
+    }
     let gate = Held {
         began: AtomicBool::new(false),
         kept: AtomicBool::new(false),
         gave_up: AtomicBool::new(false),
     };
-    audit_row(&rt, rt.alloc(), &ROWS[1], &gate)?;
+    let taps = ManuallyDrop::new(taps_of(alloc, keys, TWO_SESSIONS)?);
+    let report = report(&taps, &rt, alloc, 2, false, &gate)?;
+    assert_eq!(rt; report.as_str(), REPORT_OF_TWO);
     assert!(rt; gate.began.load(SeqCst) && gate.kept.load(SeqCst) && !gate.gave_up.load(SeqCst));
     Ok(())
 }

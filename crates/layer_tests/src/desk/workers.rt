@@ -1,6 +1,6 @@
 //! Tickets, drawn by one thread, and one worker: its entries, and what is gathered of them.
-use crate::desk::bundle::taps_of;
-use crate::desk::two_sessions::TWO_SESSIONS;
+use crate::desk::bundle::TWO_SESSIONS;
+use crate::given::taps_of;
 use aud_client::Recording;
 use aud_desk::{OpenGate, Tickets, gather, work};
 use aud_maker::sessions;
@@ -27,14 +27,6 @@ fn seats_claim_in_turn(rt: HostRuntime) -> Result<(), Fail> {
     Ok(())
 }
 
-/// How many events were received, where the verdict is yes.
-fn got(verdict: &Verdict) -> Option<usize> {
-    match verdict {
-        Verdict::Yes { got, .. } => Some(*got),
-        Verdict::No(_) => None,
-    }
-}
-
 /// Fails where one worker decides anything but two sessions, of which the first received nothing and the second one
 /// event.
 fn decide<R: Wait + Clock>(recording: &Recording<'_>, rt: &R, alloc: Global) -> Result<(), Fail> {
@@ -54,7 +46,7 @@ fn decide<R: Wait + Clock>(recording: &Recording<'_>, rt: &R, alloc: Global) -> 
     workers.push(worker)?;
     let verdicts = ManuallyDrop::new(gather(alloc, tickets, workers)?);
     match verdicts.as_slice() {
-        [p, q] if (got(p), got(q)) == (Some(0), Some(1)) => Ok(()),
+        [Verdict::Yes { got: 0, .. }, Verdict::Yes { got: 1, .. }] => Ok(()),
         _ => Err(Fail::new("none and one are received")),
     }
 }
@@ -63,7 +55,7 @@ fn decide<R: Wait + Clock>(recording: &Recording<'_>, rt: &R, alloc: Global) -> 
 fn one_worker_decides_all(rt: HostRuntime) -> Result<(), Fail> {
     let alloc = rt.alloc();
     let keys = RandomState::new(&rt)?;
-    let taps = ManuallyDrop::new(taps_of(alloc, keys, &TWO_SESSIONS, 14)?);
+    let taps = ManuallyDrop::new(taps_of(alloc, keys, TWO_SESSIONS)?);
     let recording = ManuallyDrop::new(Recording::read(&rt, alloc, keys, 4, &taps)?);
     decide(&recording, &rt, alloc)
 }

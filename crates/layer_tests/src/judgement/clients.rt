@@ -1,52 +1,48 @@
-//! What clients' taps tell, as texts.
-use crate::judgement::asked::cut;
-use crate::judgement::told::Told;
+//! What clients' taps tell: their packets, stays and frames.
+use crate::told::Told;
 use aud_check::part_of;
-use aud_client::{Frame, IndexedTranscript, Recording, Reply, Stay, StayPlaces, Transcript};
-use aud_node::Stream;
-use aud_tap::Text;
+use aud_client::{
+    ClientTap, Frame, Placed, Recording, Reply, Stay, StayPlaces, TapPacket, reply_of,
+};
+use aud_node::{Logs, Stream};
 use std::alloc::Global;
 
-/// What the client's tap of the first name tells: its stays, their places or frames, or which of them name a session.
-pub fn tell_client(recording: &Recording<'_>, alloc: Global, word: &str, of: &str, out: &mut Told) {
-    let (name, pid) = cut(of);
-    let Some(client) = client_named(recording, name) else {
+/// A line for each stay, then whether there is an orphan, and the first bad record; and the connections of the stays
+/// that name the session `P`.
+pub fn tell_client(recording: &Recording<'_>, alloc: Global, name: &str, out: &mut Told) {
+    let logs = recording.logs();
+    let place = logs.place_of(name).unwrap_or(usize::MAX);
+    let Some(client) = recording.client(place) else {
         return out.text("no client");
     };
-    match word {
-        "stays" => tell_transcript(client.transcript(), out),
-        "places" => tell_places(&client.transcript().places, out),
-        "frames" => tell_frames(recording.logs().stream(), &client.transcript().stays, out),
-        "naming" => tell_naming(client, alloc, pid, out),
-        _ => out.text("no question"),
-    }
-}
-
-fn client_named<'r, 'a>(
-    recording: &'r Recording<'a>,
-    name: &str,
-) -> Option<&'r IndexedTranscript<'a>> {
-    recording.client(recording.logs().place_of(name)?)
-}
-
-/// A line for each stay, and then whether there is an orphan, and the first bad record.
-fn tell_transcript(transcript: &Transcript<'_>, out: &mut Told) {
-    for stay in transcript.stays.iter() {
-        tell_stay(stay, out);
+    let transcript = client.transcript();
+    for (stay, places) in transcript.stays.iter().zip(&transcript.places) {
+        tell_stay(logs.stream(), stay, places, out);
     }
     if transcript.orphan {
-        out.text("orphan\n");
+        out.text("orphan, ");
     }
     if let Some(number) = transcript.bad {
-        out.text("bad ");
-        out.show(&number);
-        out.text("\n");
+        out.text("bad");
+        out.debug(&number);
+        out.text(", ");
+    }
+    out.text("naming");
+    match client.naming(alloc, "P") {
+        Ok(stays) => {
+            for stay in &stays {
+                out.debug(&stay.c);
+                out.debug(&stay.names("P"));
+            }
+        }
+        Err(_) => out.fail(),
     }
 }
 
-/// The connection, the namespace, the reply, the pid and the offset that were asked for, and the positions of the
+/// The connection, the namespace, the reply, the pid and the offset that were asked for, whether they were given, and
+/// the positions of the frames; then the records at which its first and last packet stand, the ask, the reply and the
 /// frames.
-fn tell_stay(stay: &Stay<'_>, out: &mut Told) {
+fn tell_stay(stream: &Stream<'_>, stay: &Stay<'_>, places: &StayPlaces, out: &mut Told) {
     out.show(&stay.c);
     out.text(" ");
     out.text(stay.nsp);
@@ -55,101 +51,99 @@ fn tell_stay(stay: &Stay<'_>, out: &mut Told) {
         out.text(" asked ");
         out.text(asked.pid.as_str());
         out.text(" ");
-        out.text(text_or(asked.offset.as_ref(), "nowhere"));
+        out.text(
+            asked
+                .offset
+                .as_ref()
+                .map_or("nowhere", |offset| offset.as_str()),
+        );
+    }
+    if stay.is_recovered() {
+        out.text(" recovered");
     }
     for frame in stay.frames.iter() {
-        out.text(" ");
-        out.show(&frame.position);
+        tell_frame(stream, frame, out);
     }
+    out.text(";");
+    out.debug(&(places.first, places.last));
+    out.debug(&places.ask);
+    out.debug(&places.reply);
+    out.debug(&places.frames);
     out.text("\n");
 }
 
 /// The pid and the sid that the reply tells, if there is one.
-pub fn tell_reply(reply: Option<&Reply>, out: &mut Told) {
+fn tell_reply(reply: Option<&Reply>, out: &mut Told) {
     if let Some(reply) = reply {
         out.text(" reply ");
-        out.text(text_or(reply.pid.as_ref(), "nobody"));
+        out.text(reply.pid.as_ref().map_or("nobody", |pid| pid.as_str()));
         out.text(" ");
         out.text(reply.sid.as_str());
     }
 }
 
-/// The text, or these words where there is none.
-fn text_or<'a>(text: Option<&'a Text>, words: &'a str) -> &'a str {
-    match text {
-        Some(text) => text.as_str(),
-        None => words,
-    }
-}
-
-/// A line for each stay: the records at which its packets stand.
-fn tell_places(stays: &[StayPlaces], out: &mut Told) {
-    for places in stays {
-        out.text("first ");
-        out.show(&places.first);
-        out.text(" last ");
-        out.show(&places.last);
-        out.text(" ask ");
-        out.debug(&places.ask);
-        out.text(" reply ");
-        out.debug(&places.reply);
-        out.text(" frames ");
-        out.debug(&places.frames);
-        out.text("\n");
-    }
-}
-
-/// A line for each frame of the stays.
-fn tell_frames(stream: &Stream<'_>, stays: &[Stay<'_>], out: &mut Told) {
-    for stay in stays {
-        for frame in stay.frames.iter() {
-            tell_frame(stream, frame, out);
+/// The position of the frame. Where it isn't its entry: what of it isn't, its text, and its attachments.
+fn tell_frame(stream: &Stream<'_>, frame: &Frame<'_>, out: &mut Told) {
+    out.debug(&frame.position);
+    if let Some(part) = part_of(stream, frame) {
+        out.text(" not");
+        out.debug(&part);
+        out.text(" of ");
+        out.text(frame.text());
+        for blob in frame.bin() {
+            out.debug(&blob.as_slice());
         }
     }
 }
 
-/// The position of the frame, its text, how many bytes each attachment has, and which is the first; and where it isn't
-/// its entry.
-fn tell_frame(stream: &Stream<'_>, frame: &Frame<'_>, out: &mut Told) {
-    out.show(&frame.position);
-    out.text(" ");
-    out.text(frame.text());
-    for blob in frame.bin() {
-        let bytes = blob.as_slice();
-        out.text(" ");
-        out.show(&bytes.len());
-        out.text(":");
-        out.show(&bytes.first().copied().unwrap_or(0));
+/// How many records the tap of this name has, its first bad record, and its packets, connection by connection.
+pub fn tell_packets(logs: &Logs<'_>, alloc: Global, name: &str, out: &mut Told) {
+    let place = logs.place_of(name).unwrap_or(usize::MAX);
+    let Some(recs) = logs.client(place) else {
+        return out.text("no client");
+    };
+    let Ok(tap) = ClientTap::build(alloc, recs) else {
+        return out.fail();
+    };
+    out.show(&tap.recs().len());
+    out.text(" records, bad");
+    out.debug(&tap.bad());
+    for connection in tap.connections() {
+        out.text("\nconnection");
+        out.debug(&connection.c);
+        for placed in connection.packets.as_slice() {
+            tell_placed(placed, alloc, out);
+        }
     }
-    if let Some(part) = part_of(stream, frame) {
-        out.text(", not ");
-        out.debug(&part);
-    }
+}
+
+/// The record at which the packet stands, its kind and its namespace; of one from the server its text and
+/// attachments, and what it tells, if it is a reply.
+fn tell_placed(placed: &Placed<'_>, alloc: Global, out: &mut Told) {
     out.text("\n");
-}
-
-/// Of each stay its connection, whether its reply names the session, and whether it is recovered; and the connections
-/// of the stays that name the session.
-fn tell_naming(client: &IndexedTranscript<'_>, alloc: Global, pid: &str, out: &mut Told) {
-    for stay in client.transcript().stays.iter() {
-        out.show(&stay.c);
-        out.text(" ");
-        out.show(&stay.names(pid));
-        out.text(" ");
-        out.show(&stay.is_recovered());
-        out.text(", ");
-    }
-    out.text("naming");
-    match client.naming(alloc, pid) {
-        Ok(stays) => tell_connections(&stays, out),
-        Err(_) => out.fail(),
-    }
-}
-
-/// The connections of the stays.
-fn tell_connections(stays: &[&Stay<'_>], out: &mut Told) {
-    for stay in stays {
-        out.text(" ");
-        out.show(&stay.c);
+    out.show(&placed.number);
+    match &placed.packet {
+        TapPacket::FromServer(whole) => {
+            out.text(" in");
+            out.debug(&whole.packet.kind);
+            out.text(" ");
+            out.text(whole.packet.nsp);
+            out.text(" ");
+            out.text(whole.text);
+            for blob in whole.bin.as_slice() {
+                out.debug(&blob.as_slice());
+            }
+            match reply_of(alloc, whole) {
+                Ok(reply) => tell_reply(reply.as_ref(), out),
+                Err(_) => out.fail(),
+            }
+        }
+        TapPacket::Known(_) => out.text(" known"),
+        TapPacket::FromClient(packet) => {
+            out.text(" out");
+            out.debug(&packet.kind);
+            out.text(" ");
+            out.text(packet.nsp);
+        }
     }
 }

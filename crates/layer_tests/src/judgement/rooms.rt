@@ -1,125 +1,105 @@
-//! The rooms of a session: whom entries are addressed to, spans, and what is due by these.
-use crate::judgement::asked::{cut, number};
-use crate::judgement::node_logs::log_named;
-use crate::judgement::told::Told;
+//! The rooms of a session: whom entries are addressed to, turns, spans, and what is due by these.
+ghost use Rattle.std.specs.Prelude.{IfSome};
+ghost use Rattle.aud_rooms.specs.TurnPlaces.{IsInOrder};
+
+use crate::judgement::asked::cut;
+use crate::judgement::logs::log_named;
+use crate::told::Told;
 use aud_node::{Logs, Recs, Stream};
-use aud_rooms::{RoomSet, Span, SpanBuilder, addressed, due_of};
+use aud_rooms::{RoomSet, Span, SpanBuilder, TurnPlace, addressed, due_of, spans_of_turns};
 use std::alloc::{AllocError, Global};
-use std::borrow::CowStr;
 
-pub static CASES: [&str; 7] = [
-    r#"
-? walked 1 +r 3 -r +q 4
-q 4..4 r 2..3 s1 1..4 "#,
-    // What another session joins and leaves changes nothing.
-    r#"
-st {"k":"tap","v":1,"of":"stream"}
-a {"k":"tap","v":1,"of":"node"}
-a {"k":"start","off":null}
-a {"k":"open","pid":"P","sid":"s1","nsp":"/"}
-a {"k":"open","pid":"Q","sid":"s2","nsp":"/"}
-a {"k":"join","pid":"P","room":"r"}
-a {"k":"join","pid":"Q","room":"t"}
-a {"k":"leave","pid":"Q","room":"r"}
-a {"k":"leave","pid":"P","room":"r"}
-a {"k":"join","pid":"P","room":"q"}
-? followed a
-q 8..8 r 4..6 s1 1..8 "#,
-    r#"
-st {"k":"tap","v":1,"of":"stream"}
-st {"k":"ev","off":"1-0","nsp":"/","rooms":["r"],"text":"2[\"hi\",\"1-0\"]"}
-st {"k":"ev","off":"2-0","nsp":"/","text":"2[\"hi\",\"2-0\"]"}
-st {"k":"ev","off":"3-0","nsp":"/","rooms":["r"],"except":["s1"],"text":"2[\"hi\",\"3-0\"]"}
-? addressed /
-true: 1 2
-? addressed /chat
-true:
-? addressed / r
-false: 2"#,
-    // Four events for the room `r`.
-    r#"
-st {"k":"tap","v":1,"of":"stream"}
-st {"k":"ev","off":"1-0","nsp":"/","rooms":["r"],"text":"2[\"hi\",\"1-0\"]"}
-st {"k":"ev","off":"2-0","nsp":"/","rooms":["r"],"text":"2[\"hi\",\"2-0\"]"}
-st {"k":"ev","off":"3-0","nsp":"/","rooms":["r"],"text":"2[\"hi\",\"3-0\"]"}
-st {"k":"ev","off":"4-0","nsp":"/","rooms":["r"],"text":"2[\"hi\",\"4-0\"]"}
-? due / 0 4 q:4-4 r:2-3 s1:1-4
-[2, 3]
-? due / 0 2 q:4-4 r:2-3 s1:1-4
-[2]"#,
-    // An event for two rooms that are both held counts once.
-    r#"
-st {"k":"tap","v":1,"of":"stream"}
-st {"k":"ev","off":"1-0","nsp":"/","rooms":["r"],"text":"2[\"hi\",\"1-0\"]"}
-st {"k":"ev","off":"2-0","nsp":"/","rooms":["q","r"],"text":"2[\"hi\",\"2-0\"]"}
-st {"k":"ev","off":"3-0","nsp":"/","rooms":["q","q"],"text":"2[\"hi\",\"3-0\"]"}
-st {"k":"ev","off":"4-0","nsp":"/","text":"2[\"hi\",\"4-0\"]"}
-st {"k":"ev","off":"5-0","nsp":"/","rooms":["r"],"text":"2[\"hi\",\"5-0\"]"}
-? due / 0 5 r:1-2 q:2-3
-[1, 2, 3, 4]
-? due / 1 2 r:1-2 q:2-3
-[2]
-? due / 0 9 q:3-9 q:0-3
-[2, 3, 4]"#,
-    r#"
-st {"k":"tap","v":1,"of":"stream"}
-st {"k":"ev","off":"1-0","nsp":"/","rooms":["r"],"except":["q"],"text":"2[\"hi\",\"1-0\"]"}
-st {"k":"ev","off":"2-0","nsp":"/","rooms":["r"],"except":["q"],"text":"2[\"hi\",\"2-0\"]"}
-st {"k":"ev","off":"3-0","nsp":"/","except":["q"],"text":"2[\"hi\",\"3-0\"]"}
-? due / 0 3 r:1-3 q:2-2
-[1, 3]"#,
-    // A room of another namespace with the same name, and events for each whole namespace, which are due without spans.
-    r#"
-st {"k":"tap","v":1,"of":"stream"}
-st {"k":"ev","off":"1-0","nsp":"/n","rooms":["r"],"text":"2/n,[\"hi\",\"1-0\"]"}
-st {"k":"ev","off":"2-0","nsp":"/n","text":"2/n,[\"hi\",\"2-0\"]"}
-st {"k":"ev","off":"3-0","nsp":"/","rooms":["r"],"text":"2[\"hi\",\"3-0\"]"}
-st {"k":"ev","off":"4-0","nsp":"/","text":"2[\"hi\",\"4-0\"]"}
-? due / 0 4 r:1-4
-[3, 4]
-? due /n 0 4 r:1-4
-[1, 2]
-? due /n 0 4
-[2]"#,
-];
+/// A turn of `P` on the node with this name, which took the stream in order.
+fn turn(logs: &Logs<'_>, name: &str, number: u16) -> Option<TurnPlace>
+    ensures { IfSome result (λ turn. IsInOrder logs.now turn) }
+{
+    let Some(node) = logs.place_of(name) else {
+        return None;
+    };
+    let Some(log) = logs.node(node) else {
+        return None;
+    };
+    if !log.ordered() {
+        return None;
+    }
+    let Some(range) = log.turn_range("P", number) else {
+        return None;
+    };
+    Some(TurnPlace {
+        node,
+        from: range.start,
+        to: range.end,
+    })
+}
 
-/// The spans of a session whose node's cursor comes to these positions, and that joins and leaves these rooms.
-pub fn tell_walked(alloc: Global, words: &str, out: &mut Told) {
-    match walked(alloc, words) {
-        Ok(spans) => tell_spans_of(&spans, out),
+/// The place of the turn's node, its records, its first and last cursor, and the numbers of the records of the
+/// session `P`, and how many records it has after its first.
+fn tell_turn(logs: &Logs<'_>, turn: &TurnPlace, number: u16, out: &mut Told)
+    requires { IsInOrder logs.now turn.now }
+{
+    out.debug(&turn.node);
+    out.debug(&(turn.from, turn.to));
+    out.text(", cursors");
+    out.debug(&turn.low(logs));
+    out.debug(&turn.high(logs));
+    out.text(", own");
+    out.debug(&turn.own(logs, "P"));
+    if let Some(log) = logs.node(turn.node) {
+        if let Some(recs) = log.turn_of("P", number) {
+            out.debug(&recs.between(1, recs.len()).len());
+        }
+    }
+    out.text("\n");
+}
+
+/// Turn 0 on node `a` and turn 1 on node `b`, the spans by these, and what is due by the spans.
+pub fn tell_turns(logs: &Logs<'_>, alloc: Global, out: &mut Told) {
+    let (Some(first), Some(second)) = (turn(logs, "a", 0), turn(logs, "b", 1)) else {
+        return out.text("none");
+    };
+    tell_turn(logs, &first, 0, out);
+    tell_turn(logs, &second, 1, out);
+    let Ok(spans) = spans_of_turns(alloc, logs, "P", "s1", &[first, second]) else {
+        return out.fail();
+    };
+    tell_spans(&spans, out);
+    out.text("due");
+    match due_of(
+        alloc,
+        &spans,
+        logs.stream(),
+        "/",
+        first.low(logs),
+        second.high(logs),
+    ) {
+        Ok(due) => out.debug(&due.as_slice()),
         Err(_) => out.fail(),
     }
 }
 
-fn walked<'a>(alloc: Global, words: &'a str) -> Result<Vec<Span<'a>>, AllocError> {
-    let mut builder = SpanBuilder::new(alloc, "s1", 0)?;
-    for word in words.split(' ') {
-        walk(&mut builder, word)?;
-    }
-    builder.finish()
-}
-
-/// Joins `r` where this is `+r`, leaves it where it is `-r`, and else comes to this position.
-fn walk<'a>(builder: &mut SpanBuilder<'a>, word: &'a str) -> Result<(), AllocError> {
-    match (word.strip_prefix('+'), word.strip_prefix('-')) {
-        (Some(room), _) => builder.join(room),
-        (_, Some(room)) => builder.leave(room),
-        _ => builder.upto(number(word)),
+/// Each room with its first and last position.
+fn tell_spans(spans: &[Span<'_>], out: &mut Told) {
+    for span in spans {
+        out.text(span.room.as_str());
+        out.debug(&(span.first, span.last));
+        out.text(" ");
     }
 }
 
 /// The spans of the session `P` by the records of this node, each of which stands at the position of its number.
-pub fn tell_followed(logs: &Logs<'_>, alloc: Global, name: &str, out: &mut Told) {
+pub fn tell_walked(logs: &Logs<'_>, alloc: Global, name: &str, out: &mut Told) {
     let Some(log) = log_named(logs, name) else {
         return out.text("no node");
     };
-    match followed(alloc, log.recs()) {
-        Ok(spans) => tell_spans_of(&spans, out),
+    match walked(alloc, log.recs()) {
+        Ok(spans) => tell_spans(&spans, out),
         Err(_) => out.fail(),
     }
 }
 
-fn followed<'a>(alloc: Global, recs: Recs<'a>) -> Result<Vec<Span<'a>>, AllocError> {
+/// After the records the session is in the room `z` for one position, and then goes on for one.
+fn walked<'a>(alloc: Global, recs: Recs<'a>) -> Result<Vec<Span<'a>>, AllocError> {
+    let count = recs.len() as u64;
     let mut builder = SpanBuilder::new(alloc, "s1", 0)?;
     for number in 0..recs.len() {
         builder.upto(number as u64)?;
@@ -127,24 +107,16 @@ fn followed<'a>(alloc: Global, recs: Recs<'a>) -> Result<Vec<Span<'a>>, AllocErr
             builder.follow("P", rec)?;
         }
     }
-    builder.upto(recs.len() as u64)?;
+    builder.upto(count)?;
+    builder.join("z")?;
+    builder.upto(count.saturating_add(1))?;
+    builder.leave("z")?;
+    builder.upto(count.saturating_add(2))?;
     builder.finish()
 }
 
-/// Each room with its first and last position.
-pub fn tell_spans_of(spans: &[Span<'_>], out: &mut Told) {
-    for span in spans {
-        out.text(span.room.as_str());
-        out.text(" ");
-        out.show(&span.first);
-        out.text("..");
-        out.show(&span.last);
-        out.text(" ");
-    }
-}
-
-/// Whether `r` is held, and the positions of the entries for a session in this namespace, after it joined `s1` and `r`
-/// and left this room.
+/// Whether `r` is held, and the positions of the entries for a session in this namespace, after it joined `s1` and
+/// `r` and left this room.
 pub fn tell_addressed(stream: &Stream<'_>, alloc: Global, of: &str, out: &mut Told) {
     let (nsp, left) = cut(of);
     let mut rooms = RoomSet::new(alloc);
@@ -152,47 +124,13 @@ pub fn tell_addressed(stream: &Stream<'_>, alloc: Global, of: &str, out: &mut To
         out.fail();
     }
     rooms.leave(left);
-    tell_addressed_to(stream, nsp, &rooms, out);
-}
-
-fn tell_addressed_to(stream: &Stream<'_>, nsp: &str, rooms: &RoomSet<'_>, out: &mut Told) {
-    out.show(&rooms.contains("r"));
+    out.debug(&rooms.contains("r"));
     out.text(":");
     for position in 1..4 {
         if let Some(entry) = stream.entry(position) {
-            if addressed(entry, nsp, rooms) {
-                out.text(" ");
-                out.show(&position);
+            if addressed(entry, nsp, &rooms) {
+                out.debug(&position);
             }
         }
     }
-}
-
-/// The positions past the first up to the second that are due in the namespace by spans of these rooms.
-pub fn tell_due(stream: &Stream<'_>, alloc: Global, of: &str, out: &mut Told) {
-    let (nsp, of) = cut(of);
-    let (after, of) = cut(of);
-    let (upto, rooms) = cut(of);
-    let Ok(spans) = spans_of(alloc, rooms) else {
-        return out.fail();
-    };
-    match due_of(alloc, &spans, stream, nsp, number(after), number(upto)) {
-        Ok(due) => out.debug(&due.as_slice()),
-        Err(_) => out.fail(),
-    }
-}
-
-/// The spans of rooms, each written as `r:2-3`.
-fn spans_of(alloc: Global, rooms: &str) -> Result<Vec<Span<'_>>, AllocError> {
-    let mut spans = Vec::new(alloc);
-    for word in rooms.split_whitespace() {
-        let (room, positions) = word.split_once(':').unwrap_or((word, ""));
-        let (first, last) = positions.split_once('-').unwrap_or((positions, ""));
-        spans.push(Span {
-            room: CowStr::Borrowed(room),
-            first: number(first),
-            last: number(last),
-        })?;
-    }
-    Ok(spans)
 }

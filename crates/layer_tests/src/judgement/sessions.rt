@@ -1,74 +1,67 @@
-//! Which sessions there are, the certificate of a session or its fault, and the answers on certificates made by hand:
-//! the values are those that the rules of the cluster, of turns, spans and sessions give.
+//! Which sessions there are, and of each its verdict and its certificate.
+use crate::told::Told;
+use aud_cert::{Certificate, read_cert, write_cert};
+use aud_check::check;
+use aud_client::Recording;
+use aud_maker::{MakeFault, make, sessions};
+use aud_verdict::{Verdict, decide};
+use std::alloc::Global;
 
-pub static CASES: [&str; 7] = [
-    r#"@EVENT_1 NODE_A CLIENT_OF_P
-? made P
-{"client":"c1","pid":"P","spans":[["r",1,1],["s1",1,1]],"turns":[["a",1,4,0,1]]}"#,
-    // The session goes from one node to the other and back, twice.
-    r#"@EVENT_1 EVENT_2 EVENT_3 EVENT_4 NODE_A A_BREAKS A_COMES_BACK NODE_B B_BREAKS B_COMES_BACK CLIENT_OF_P
-? made P
-{"client":"c1","pid":"P","spans":[["r",1,4],["s1",1,4]],"turns":[["a",1,5,0,1],["b",3,5,2,2],["a",7,9,3,3],["b",7,8,4,4]]}"#,
-    // Positions 2 and 3 are judged by the rooms at the recovery, before the session leaves `r` and joins `q`.
-    r#"@EVENT_1 EVENT_2 EVENT_3 EVENT_4 NODE_A A_BREAKS LATER_B CLIENT_OF_P
-? made P
-{"client":"c1","pid":"P","spans":[["q",4,4],["r",1,3],["s1",1,4]],"turns":[["a",1,5,0,1],["b",4,8,3,4]]}"#,
-    // Without the `break` of the turn on node `b`.
-    r#"@EVENT_1 EVENT_2 EVENT_3 EVENT_4 NODE_A A_BREAKS A_COMES_BACK NODE_B B_COMES_BACK CLIENT_OF_P
-? made P
-CHAIN
-? made Q
-NOLOG"#,
-    // Nodes' taps come first, wherever they stand.
-    r#"@EVENT_1 EVENT_2 CLIENT_OF_R NODE_A CLIENT_OF_P UNORDERED_B
-? sessions
-P Q R 
-? made Q
-ORDER"#,
-    r#"@EVENT_1 NODE_A
-? made P
-CLIENT"#,
-    r#"@EVENT_1 NODE_A CLIENT_OF_P OTHER_CLIENT_OF_P
-? made P
-CLIENT"#,
-];
+/// The sessions that nodes name, and a line for each session.
+pub fn tell_sessions(recording: &Recording<'_>, alloc: Global, out: &mut Told) {
+    out.text("named");
+    for number in 0..recording.logs().named_count() {
+        out.text(" ");
+        out.text(recording.logs().named_pid(number));
+    }
+    let Ok(pids) = sessions(alloc, recording) else {
+        return out.fail();
+    };
+    for pid in pids.iter() {
+        out.text("\n");
+        out.text(pid);
+        tell_session(recording, alloc, pid, out);
+    }
+}
 
-/// What the client asks for, the event and the reply that it gets come last.
-pub static CHECKED: [&str; 8] = [
-    // The first turn alone shows the first event alone.
-    r#"@RECOVERY ASKED REPLAYED RECOVERED
-? checked @TWO_TURNS
-got=2 tail=0 turns=2
-? checked @OTHER_SPAN
-K9 Span
-? checked @NO_END
-K7 NoEnd
-? checked @OTHER_RECORDS
-K5 NotItsTurn
-? checked @OTHER_CURSOR
-K8 Cursor
-? checked @ONE_TURN
-K11 Received EXTRA 2-0"#,
-    r#"@RECOVERY A_GOES_ON ASKED REPLAYED RECOVERED
-? checked @PAST_END
-K6 EndInside"#,
-    r#"@RECOVERY ASKED PING RECOVERED
-? checked @ONE_TURN
-got=1 tail=0 turns=1"#,
-    r#"@RECOVERY ASKED OTHER_TEXT RECOVERED
-? checked @TWO_TURNS
-K11 Received CONTENT 2-0"#,
-    // The first event comes again in place of the second.
-    r#"@RECOVERY ASKED RECEIVED_1 RECOVERED
-? checked @TWO_TURNS
-K11 Received DOUBLED 1-0"#,
-    r#"@RECOVERY ASKED REPLAYED OTHER_SID
-? checked @TWO_TURNS
-K10 Names"#,
-    r#"@RECOVERY ASKED REPLAYED NOBODY
-? checked @TWO_TURNS
-K11 Received ORPHAN"#,
-    r#"@RECOVERY UNKNOWN REPLAYED RECOVERED
-? checked @TWO_TURNS
-K11 Received WINDOW 2"#,
-];
+/// The verdict on the session, and the text of its certificate, or the word of its fault.
+fn tell_session(recording: &Recording<'_>, alloc: Global, pid: &str, out: &mut Told) {
+    match decide(alloc, recording, pid, false) {
+        Ok(Verdict::Yes { got, tail, turns }) => {
+            out.text(" yes");
+            out.debug(&(got, tail, turns));
+        }
+        Ok(Verdict::No(fault)) => {
+            out.text(" no ");
+            out.show(&fault);
+        }
+        Err(_) => out.fail(),
+    }
+    out.text(", ");
+    match make(alloc, recording, pid) {
+        Ok(cert) => tell_certificate(recording, alloc, &cert, out),
+        Err(MakeFault::Fault(fault)) => out.show(&fault),
+        Err(MakeFault::Memory) => out.fail(),
+    }
+}
+
+/// What is written for the certificate, and what the check answers to what is read from that.
+fn tell_certificate(
+    recording: &Recording<'_>,
+    alloc: Global,
+    cert: &Certificate<'_>,
+    out: &mut Told,
+) {
+    let Ok(text) = write_cert(alloc, cert) else {
+        return out.fail();
+    };
+    out.text(&text);
+    out.text(" ");
+    match read_cert(alloc, text.as_bytes(), recording.logs()) {
+        Ok(cert) => match check(alloc, recording, &cert) {
+            Ok(accepted) => out.show(&accepted),
+            Err(refusal) => out.show(&refusal),
+        },
+        Err(fault) => out.show(&fault),
+    }
+}
