@@ -1,13 +1,21 @@
--- Lists of another length are other lists.
+-- Lists of another length are other lists; a cause that holds.
 use Rattle.std.proofs.Common.{◌≡◌, ℕ, Bool, true, false, ◌&&◌, List, [], ◌∷◌, length, map, suc, refl, ap, ◌∙◌}
+use Rattle.std.specs.Bool.{then_some}
 use Rattle.std.specs.Str.{bytes_eq}
 use Rattle.serde_json.specs.declared.value.Value.{Value}
 use Rattle.aud_sio.specs.declared.whole.Blob.{Blob}
 use Rattle.aud_sio.specs.Message.{blob_bytes}
 use Rattle.aud_sio.specs.Assembly.{blob_view}
 use Rattle.serde_json.specs.View.{items_view, view}
+use Rattle.aud_causes.specs.declared.cause.Cause.{Cause}
+use Rattle.aud_causes.specs.Delivery.{cause_if}
 use Rattle.aud_causes.specs.SameJson.{same_items, same_value}
 use Rattle.aud_causes.specs.Contents.{are_same, listed}
+
+-- a cause where it holds, by the method of a Bool
+pub then_if : (b : Bool) (cause : Cause) → then_some b cause ≡ cause_if b cause
+then_if true cause = refl
+then_if false cause = refl
 
 and-false : (b : Bool) → false ≡ b && false
 and-false true = refl

@@ -98,21 +98,14 @@ doubled_in s f = doubled_causes s.c s.seen s.stays (body_twice s.c s.client s.nu
 abbrev pub swapped_causes : Cluster → List TurnSeen → Facts → List Cause
 swapped_causes c turns f = held (node_behind c turns f ∷ swapped_in_replay f ∷ swapped_live f ∷ [])
 
--- of an entry that was lost, where this holds of the rooms at the break, and of a `leave`: the first; it was left out of
--- the replay; the offset was another session's, or a frame was not recorded; it was left out while the client was
--- connected; the `leave` is missing
-abbrev pub lost_causes : Option Cause → List ℕ → Option Cause → Facts → List Cause
-lost_causes at_break due leave f =
-    held (at_break ∷ skipped_in_window f ∷ asked_past due f ∷ lost_live f ∷ leave ∷ [])
-
--- the same of a session's entry
+-- of an entry of the session that was lost: it was replayed by the rooms at the break; it was left out of the replay; the
+-- offset was another session's, or a frame was not recorded; it was left out while the client was connected; a `leave` is
+-- missing
 abbrev pub lost_in : Case → Facts → List Cause
 lost_in s f =
-    lost_causes
-    (rooms_at_break s.c s.who s.turns s.stays f)
-    s.due
-    (leave_missing s.c s.who.pid s.seen s.spans (positions_received s.stays) f)
-    f
+    held
+    (rooms_at_break s.c s.who s.turns s.stays f ∷ skipped_in_window f ∷ asked_past s.due f ∷ lost_live f
+    ∷ leave_missing s.c s.who.pid s.seen s.spans (positions_received s.stays) f ∷ [])
 
 -- of an entry that was not due, for this reason, and where this holds of the node that was behind the break, of the
 -- rooms at the break, of a room that was left, and of a change of rooms that is missing: the first; that of the rooms; the
@@ -124,19 +117,16 @@ extra_by c pid turns behind at_break left missing due why f =
     (behind ∷ at_break ∷ other_session_before due f ∷ log_ended_early c pid turns why ∷ sent_after_end c pid turns why f ∷ left
     ∷ before_birth c turns why ∷ extra_live (option_or behind left) why f ∷ missing ∷ [])
 
--- the same, where this holds of the rooms at the break, and of a change of rooms that is missing
-abbrev pub extra_causes : Cluster → Text → List TurnSeen → Option Cause → Option Cause → List ℕ → Option Reason → Facts → List Cause
-extra_causes c pid turns at_break missing due why f =
-    extra_by c pid turns (node_behind c turns f) at_break (late_leave c pid (map (turn_at c) turns) f.parted.position why) missing due why f
-
 -- the same of a session's entry at this position
 abbrev pub extra_in : Case → Facts → ℕ → List Cause
 extra_in s f p = extra_of s f (why_not_due s.c s.who s.turns p)
   where
     extra_of : Case → Facts → Option Reason → List Cause
     extra_of s f why =
-        extra_causes s.c s.who.pid s.seen
+        extra_by s.c s.who.pid s.seen
+        (node_behind s.c s.seen f)
         (rooms_at_break s.c s.who s.turns s.stays f)
+        (late_leave s.c s.who.pid (map (turn_at s.c) s.seen) f.parted.position why)
         (change_missing s.c s.who.pid s.seen s.spans (positions_received s.stays) why f)
         s.due
         why

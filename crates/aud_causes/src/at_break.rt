@@ -2,7 +2,7 @@
 ghost use Rattle.std.specs.Prelude.{◌≡◌, IfOk, map, nat_eq, slice_get};
 ghost use Rattle.std.specs.Cmp.Lexicographic.{pointwise};
 ghost use Rattle.aud_maker.specs.Made.{IsMade};
-ghost use Rattle.aud_causes.specs.AtBreak.{came_within, due_at_break, first_came, first_past, first_taken, is_by_rooms_at_break, rooms_at_break};
+ghost use Rattle.aud_causes.specs.AtBreak.{came_within, due_at_break, first_came, first_past, first_taken, rooms_at_break};
 
 use crate::cause::Cause;
 use crate::facts::{Facts, Replay};
@@ -35,7 +35,9 @@ pub(crate) fn rooms_at_break(
     if !is_replayed(replay, facts.parted.position) {
         return Ok(None);
     }
-    if !is_by_rooms_at_break(alloc, recording, cert, stays, facts.later, replay)? {
+    let due = due_at_break(alloc, recording, cert, facts.later, replay)?;
+    let came = came_within(alloc, stays, facts.later, replay)?;
+    if !are_same(came.as_slice(), due.as_slice()) {
         return Ok(None);
     }
     Ok(Some(Cause::RoomsAtBreak {
@@ -43,25 +45,6 @@ pub(crate) fn rooms_at_break(
         after: replay.after,
         low: replay.low,
     }))
-}
-
-/// Whether exactly those came in the stay with this number that are addressed to the rooms held at the break before it.
-fn is_by_rooms_at_break(
-    alloc: Global,
-    recording: &Recording<'_>,
-    cert: &Certificate<'_>,
-    stays: &[&Stay<'_>],
-    later: usize,
-    replay: Replay,
-) -> Result<bool, AllocError>
-    requires { IsMade recording.now cert.now.pid cert.now }
-    ensures { IfOk result (λ is. (made : IsMade recording.now cert.now.pid cert.now)
-        → is ≡ is_by_rooms_at_break recording.now made.who made.turns
-        (map (λ stay. stay.now) stays.now) later replay) }
-{
-    let due = due_at_break(alloc, recording, cert, later, replay)?;
-    let came = came_within(alloc, stays, later, replay)?;
-    Ok(are_same(came.as_slice(), due.as_slice()))
 }
 
 /// Whether exactly these came, in this order.

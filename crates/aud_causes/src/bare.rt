@@ -1,7 +1,6 @@
 //! A client's tap that may have a session's connection without its packets.
 ghost use Rattle.std.specs.Prelude.{◌≡◌, IfOk};
-ghost use Rattle.std.specs.Option.{option_copied};
-ghost use Rattle.aud_causes.specs.Bare.{bare_place, first_bare, is_bare, is_packet, tap_without_packets};
+ghost use Rattle.aud_causes.specs.Bare.{bare_place, first_bare, is_bare, tap_without_packets};
 
 use crate::cause::Cause;
 use crate::turns::turn_count;
@@ -48,20 +47,14 @@ fn is_bare(tap: &Tap) -> bool
     match &tap.records {
         Records::Client(recs) => {
             let recs = recs.as_slice();
-            matches!(recs.get(0), Some(ClientRec::Conn { .. })) && !is_packet(recs.get(1))
+            match (recs.get(0), recs.get(1)) {
+                (
+                    Some(ClientRec::Conn { .. }),
+                    None | Some(ClientRec::Conn { .. } | ClientRec::Lost),
+                ) => true,
+                _ => false,
+            }
         }
         _ => false,
-    }
-}
-
-/// Whether there is a record, and it is of packets.
-fn is_packet(rec: Option<&ClientRec>) -> bool
-    ensures { result ≡ is_packet (option_copied rec.entry) }
-{
-    match rec {
-        Some(ClientRec::Conn { .. }) => false,
-        Some(ClientRec::Lost) => false,
-        Some(_) => true,
-        None => false,
     }
 }

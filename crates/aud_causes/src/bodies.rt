@@ -1,7 +1,7 @@
 //! What came twice because a body of polling did.
 ghost use Rattle.std.specs.Prelude.{◌≡◌, None, slice_get};
 ghost use Rattle.std.specs.Option.{option_copied};
-ghost use Rattle.aud_causes.specs.Bodies.{body_at, body_before, body_twice, client_record, equal_bodies, frames_there, last_of, last_record, places_at, record_of};
+ghost use Rattle.aud_causes.specs.Bodies.{body_at, body_twice, client_record, equal_bodies, frames_there, last_of, last_record, places_at, record_of};
 
 use crate::cause::Cause;
 use crate::facts::Facts;
@@ -24,7 +24,19 @@ pub(crate) fn body_twice(
     if facts.earlier == facts.later {
         return equal_bodies(recording, client, numbers, facts);
     }
-    body_before(recording, client, numbers, facts)
+    if facts.later < facts.earlier {
+        return None;
+    }
+    let first = record_of(recording, client, numbers, facts.parted.first)?;
+    let last = last_record(places_at(recording, client), front_of(numbers, facts.later))?;
+    if first != last || body_at(recording, client, first).is_none() {
+        return None;
+    }
+    Some(Cause::BodyCameTwice {
+        first: facts.parted.first,
+        again: facts.parted.again,
+        equal: false,
+    })
 }
 
 /// Where the two frames came in two bodies of polling of the same text.
@@ -72,31 +84,6 @@ pub(crate) fn client_record<'a>(
     ensures { option_copied result ≡ client_record recording.now client number }
 {
     recording.logs().client(client)?.get(number)
-}
-
-/// Where the two frames stand in two stays, and what came of the session from the first one on, up to the later stay,
-/// came in one body of polling.
-fn body_before(
-    recording: &Recording<'_>,
-    client: usize,
-    numbers: &[usize],
-    facts: Facts,
-) -> Option<Cause>
-    ensures { result ≡ body_before recording.now client numbers.now facts }
-{
-    if facts.later <= facts.earlier {
-        return None;
-    }
-    let first = record_of(recording, client, numbers, facts.parted.first)?;
-    let last = last_record(places_at(recording, client), front_of(numbers, facts.later))?;
-    if first != last || body_at(recording, client, first).is_none() {
-        return None;
-    }
-    Some(Cause::BodyCameTwice {
-        first: facts.parted.first,
-        again: facts.parted.again,
-        equal: false,
-    })
 }
 
 /// The records of the stays of the client's tap at this place.

@@ -8,103 +8,6 @@ use aud_cert::Fault;
 use aud_verdict::Verdict;
 use std::alloc::{AllocError, Global};
 
-static NOLOG: [&str; 2] = ["open-not-recorded", "node-not-tapped"];
-
-static CHAIN: [&str; 7] = [
-    "node-not-tapped",
-    "missing-back",
-    "missing-break",
-    "cleared-after-break",
-    "turn-not-stored",
-    "recovered-twice",
-    "opened-twice",
-];
-
-static ORDER: [&str; 5] = [
-    "no-start",
-    "restarted-in-old-log",
-    "entries-skipped-by-node",
-    "entry-taken-again",
-    "not-in-stream",
-];
-
-static CLIENT: [&str; 4] = [
-    "two-taps",
-    "no-client-tap",
-    "reply-missing",
-    "client-tap-has-no-packets",
-];
-
-static NAMES: [&str; 2] = ["sid-differs", "namespace-differs"];
-
-static FRAME: [&str; 1] = ["not-a-packet"];
-
-static ORPHAN: [&str; 7] = [
-    "cut-before-reply",
-    "tap-began-late",
-    "reply-missing",
-    "after-disconnect",
-    "out-after-answer",
-    "second-connect",
-    "reply-without-pid",
-];
-
-static CONTENT: [&str; 4] = [
-    "another-encoder",
-    "attachments-reordered",
-    "altered",
-    "another-event",
-];
-
-static EXTRA: [&str; 11] = [
-    "node-behind-break",
-    "rooms-at-break",
-    "offset-of-another-session",
-    "log-ended-early",
-    "sent-after-end",
-    "late-leave",
-    "before-birth",
-    "extra-live",
-    "join-missing",
-    "leave-missing",
-    "recovery-not-recorded",
-];
-
-static DOUBLED: [&str; 8] = [
-    "node-behind-break",
-    "sent-again-after-replay",
-    "replay-includes-offset",
-    "stale-offset",
-    "body-came-twice",
-    "doubled-in-replay",
-    "doubled-live",
-    "recovery-not-recorded",
-];
-
-static SWAPPED: [&str; 4] = [
-    "node-behind-break",
-    "swapped-in-replay",
-    "swapped-live",
-    "recovery-not-recorded",
-];
-
-static LOST: [&str; 7] = [
-    "rooms-at-break",
-    "skipped-in-window",
-    "offset-of-another-session",
-    "frame-not-recorded",
-    "lost-live",
-    "leave-missing",
-    "recovery-not-recorded",
-];
-
-static WINDOW: [&str; 4] = [
-    "no-offset",
-    "unknown-offset",
-    "stale-offset",
-    "offset-of-another-session",
-];
-
 static REFUSAL: [&str; 6] = [
     "no-offset",
     "unknown-offset",
@@ -119,19 +22,90 @@ fn candidates(fault: &Fault) -> &'static [&'static str]
     ensures { map text_of result.now ≡ candidates fault.now }
 {
     match fault {
-        Fault::NoLog => &NOLOG,
-        Fault::Chain => &CHAIN,
-        Fault::Order => &ORDER,
-        Fault::Client => &CLIENT,
-        Fault::Names => &NAMES,
-        Fault::Frame => &FRAME,
-        Fault::Orphan => &ORPHAN,
-        Fault::Content(_) => &CONTENT,
-        Fault::Extra(_) => &EXTRA,
-        Fault::Doubled(_) => &DOUBLED,
-        Fault::Swapped(_) => &SWAPPED,
-        Fault::Lost(_) => &LOST,
-        Fault::Window(_) => &WINDOW,
+        Fault::NoLog => &["open-not-recorded", "node-not-tapped"],
+        Fault::Chain => &[
+            "node-not-tapped",
+            "missing-back",
+            "missing-break",
+            "cleared-after-break",
+            "turn-not-stored",
+            "recovered-twice",
+            "opened-twice",
+        ],
+        Fault::Order => &[
+            "no-start",
+            "restarted-in-old-log",
+            "entries-skipped-by-node",
+            "entry-taken-again",
+            "not-in-stream",
+        ],
+        Fault::Client => &[
+            "two-taps",
+            "no-client-tap",
+            "reply-missing",
+            "client-tap-has-no-packets",
+        ],
+        Fault::Names => &["sid-differs", "namespace-differs"],
+        Fault::Frame => &["not-a-packet"],
+        Fault::Orphan => &[
+            "cut-before-reply",
+            "tap-began-late",
+            "reply-missing",
+            "after-disconnect",
+            "out-after-answer",
+            "second-connect",
+            "reply-without-pid",
+        ],
+        Fault::Content(_) => &[
+            "another-encoder",
+            "attachments-reordered",
+            "altered",
+            "another-event",
+        ],
+        Fault::Extra(_) => &[
+            "node-behind-break",
+            "rooms-at-break",
+            "offset-of-another-session",
+            "log-ended-early",
+            "sent-after-end",
+            "late-leave",
+            "before-birth",
+            "extra-live",
+            "join-missing",
+            "leave-missing",
+            "recovery-not-recorded",
+        ],
+        Fault::Doubled(_) => &[
+            "node-behind-break",
+            "sent-again-after-replay",
+            "replay-includes-offset",
+            "stale-offset",
+            "body-came-twice",
+            "doubled-in-replay",
+            "doubled-live",
+            "recovery-not-recorded",
+        ],
+        Fault::Swapped(_) => &[
+            "node-behind-break",
+            "swapped-in-replay",
+            "swapped-live",
+            "recovery-not-recorded",
+        ],
+        Fault::Lost(_) => &[
+            "rooms-at-break",
+            "skipped-in-window",
+            "offset-of-another-session",
+            "frame-not-recorded",
+            "lost-live",
+            "leave-missing",
+            "recovery-not-recorded",
+        ],
+        Fault::Window(_) => &[
+            "no-offset",
+            "unknown-offset",
+            "stale-offset",
+            "offset-of-another-session",
+        ],
         Fault::Tail(_) => &[],
     }
 }

@@ -4,10 +4,9 @@ ghost use Rattle.std.specs.Option.{option_copied};
 ghost use Rattle.aud_maker.specs.Made.{IsMade};
 ghost use Rattle.aud_rows.specs.ClientPlaces.{AreOf};
 ghost use Rattle.aud_explanation.specs.CauseState.{is_certain};
-ghost use Rattle.aud_causes.specs.Causes.{AreCauses, AreFound, AreNumbersAt, has_others, is_sure};
+ghost use Rattle.aud_causes.specs.Causes.{AreCauses, AreNumbersAt, has_others, is_sure};
 ghost use Rattle.aud_causes.specs.Records.{place_of};
 
-use crate::cause::Cause;
 use crate::found::{CauseFound, shown_causes};
 use crate::judged::judged_causes;
 use crate::recorded::recorded_causes;
@@ -59,9 +58,10 @@ pub fn causes_of<'r, 'a>(
     let recording = sheet.recording;
     let client = place_of(tap);
     let numbers = numbers_at(recording, client, pid);
-    let found = causes_found(
-        alloc, recording, client, numbers, pid, fault, account, noted,
-    )?;
+    let found = match account {
+        Some(account) => { judged_causes(alloc, recording, account, numbers, fault, noted.orphan)? }
+        None => recorded_causes(alloc, recording, client, pid, fault, &noted.unordered)?,
+    };
     shown_causes(
         alloc,
         &sheet,
@@ -77,27 +77,6 @@ fn has_others(fault: &Fault) -> bool
     ensures { result ≡ has_others fault.now }
 {
     !matches!(fault, Fault::NoLog | Fault::Frame)
-}
-
-/// The causes of the fault, where these are the numbers of the session's stays in its client's tap.
-fn causes_found(
-    alloc: Global,
-    recording: &Recording<'_>,
-    client: Option<usize>,
-    numbers: &[usize],
-    pid: &str,
-    fault: &Fault,
-    account: Option<&Account<'_, '_>>,
-    noted: &Noted,
-) -> Result<Vec<Cause>, AllocError>
-    requires { IfSome (option_copied account) (λ a. IsMade recording.now pid.now a.cert) }
-    ensures { IfOk result (λ found. AreFound recording.now client numbers.now pid.now noted.now
-        (option_copied account.entry) fault.now found.items) }
-{
-    match account {
-        Some(account) => judged_causes(alloc, recording, account, numbers, fault, noted.orphan),
-        None => recorded_causes(alloc, recording, client, pid, fault, &noted.unordered),
-    }
 }
 
 /// The place of the tap, if there is one.

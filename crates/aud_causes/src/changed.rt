@@ -1,8 +1,8 @@
 //! A change of a room that no log has: with it what came would be what was due.
 ghost use Rattle.std.specs.Prelude.{◌≡◌, IfOk};
-ghost use Rattle.std.specs.List.{filter};
 ghost use Rattle.aud_session_facts.specs.Opened.{opened_in};
-ghost use Rattle.aud_causes.specs.Changed.{fits_with, fits_with_any, is_within, namespace_in, spans_with, stretch_of};
+ghost use Rattle.aud_causes.specs.Leavable.{own_room};
+ghost use Rattle.aud_causes.specs.Changed.{fits_with, fits_with_any, namespace_in, spans_with, stretch_of};
 
 use crate::at_break::are_same;
 use crate::next_change::next_change;
@@ -73,28 +73,15 @@ pub(crate) fn fits_with(
 {
     let stretch = stretch_of(logs, pid, turns, came, room, position);
     let changed = spans_with(alloc, spans, room, joined, stretch)?;
-    let within = within(alloc, came, stretch)?;
-    let after = stretch.first.saturating_sub(1);
-    let stream = logs.stream();
-    let due = due_of(
-        alloc,
-        &changed,
-        stream,
-        namespace_in(turns),
-        after,
-        stretch.last,
-    )?;
-    Ok(are_same(within.as_slice(), due.as_slice()))
-}
-
-/// Those of the positions that the stretch has.
-fn within(alloc: Global, came: &[u64], stretch: Stretch) -> Result<Vec<u64>, AllocError>
-    ensures { IfOk result (λ within. within.items ≡ filter (is_within stretch) came.now) }
-{
-    came.iter()
+    let within: Vec<u64> = came
+        .iter()
         .copied()
         .filter(|position| stretch.first <= *position && *position <= stretch.last)
-        .collect(alloc)
+        .collect(alloc)?;
+    let after = stretch.first.saturating_sub(1);
+    let (_, nsp) = opened_names(turns);
+    let due = due_of(alloc, &changed, logs.stream(), nsp, after, stretch.last)?;
+    Ok(are_same(within.as_slice(), due.as_slice()))
 }
 
 /// From the position on, up to the next change of the room that a log has, or to the end of what came.
@@ -112,15 +99,12 @@ fn stretch_of(
     for other in came {
         last = (*other).max(last);
     }
-    match next_change(logs, pid, turns, room, position) {
-        Some(reached) => Stretch {
-            first: position,
-            last: reached.min(last),
-        },
-        None => Stretch {
-            first: position,
-            last,
-        },
+    if let Some(reached) = next_change(logs, pid, turns, room, position) {
+        last = reached.min(last);
+    }
+    Stretch {
+        first: position,
+        last,
     }
 }
 
@@ -157,12 +141,13 @@ fn spans_with<'s>(
     Ok(changed)
 }
 
-/// The namespace in which the session of these turns was opened.
-fn namespace_in<'a>(turns: &[Turn<'a>]) -> &'a str
-    ensures { result.now ≡ namespace_in (opened_in turns.now) }
+/// The sid and the namespace with which the session of these turns was opened; empty texts where it was not.
+pub(crate) fn opened_names<'a>(turns: &[Turn<'a>]) -> (&'a str, &'a str)
+    ensures sid { result.0.now ≡ own_room (opened_in turns.now) }
+    ensures nsp { result.1.now ≡ namespace_in (opened_in turns.now) }
 {
     match opened_in(turns) {
-        Some(opened) => opened.nsp,
-        None => "",
+        Some(opened) => (opened.sid, opened.nsp),
+        None => ("", ""),
     }
 }

@@ -1,10 +1,9 @@
 //! What an event that isn't its entry may come from.
-ghost use Rattle.std.specs.Prelude.{◌≡◌, ◌&&◌, IfOk, map, not, option_map};
+ghost use Rattle.std.specs.Prelude.{◌≡◌, ◌&&◌, not, IfOk, map, option_map};
 ghost use Rattle.serde_json.specs.View.{view};
 ghost use Rattle.aud_sio.specs.Message.{blob_bytes};
 ghost use Rattle.aud_sio.specs.Assembly.{blob_view};
 ghost use Rattle.aud_causes.specs.Delivery.{cause_if};
-ghost use Rattle.aud_client.specs.Replies.{value_of};
 ghost use Rattle.aud_causes.specs.Contents.{are_same, are_same_in_any_order, content_causes, elements, event_causes, is_as_often, is_other_call, is_other_event, of_both, said_in, said_view, says_same};
 
 use crate::cause::Cause;
@@ -134,25 +133,14 @@ fn said_in<'a>(alloc: Global, text: &'a str) -> Result<Option<Said<'a>>, AllocEr
         Err(SioFault::Memory) => return Err(AllocError),
         Err(_) => return Ok(None),
     };
-    match value_of(alloc, packet.payload)? {
-        Some(value) => Ok(Some(Said {
+    let Some(payload) = packet.payload else {
+        return Ok(None);
+    };
+    match Value::from_str(alloc, payload) {
+        Ok(value) => Ok(Some(Said {
             nsp: packet.nsp,
             value,
         })),
-        None => Ok(None),
-    }
-}
-
-/// The value of a payload, if there is one, and it is JSON.
-fn value_of(alloc: Global, payload: Option<&str>) -> Result<Option<Value>, AllocError>
-    ensures { IfOk result (λ value. option_map view value
-        ≡ value_of (option_map (λ text. text.now) payload.entry)) }
-{
-    let Some(text) = payload else {
-        return Ok(None);
-    };
-    match Value::from_str(alloc, text) {
-        Ok(value) => Ok(Some(value)),
         Err(fault) if fault.is_memory() => Err(AllocError),
         Err(_) => Ok(None),
     }

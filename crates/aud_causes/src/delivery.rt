@@ -1,8 +1,7 @@
 //! What a difference between what was received and what was due may come from.
-ghost use Rattle.std.specs.Prelude.{◌≡◌, ℕ, IfOk, List, map, option_map};
+ghost use Rattle.std.specs.Prelude.{◌≡◌, ℕ, IfOk, List, map};
 ghost use Rattle.aud_maker.specs.Made.{IsMade};
-ghost use Rattle.aud_session_facts.specs.NotDue.{reason_of};
-ghost use Rattle.aud_causes.specs.Differences.{asked_past, case_of, causes_by, difference_causes, doubled_causes, doubled_in, extra_causes, extra_in, lost_causes, lost_in, offset_of_another, other_session_before, swapped_causes};
+ghost use Rattle.aud_causes.specs.Differences.{asked_past, case_of, causes_by, difference_causes, doubled_causes, extra_in, lost_in, offset_of_another, other_session_before, swapped_causes};
 
 use crate::at_break::{first_came, first_taken, rooms_at_break};
 use crate::behind::node_behind;
@@ -23,7 +22,7 @@ use aud_cert::Turn;
 use aud_check::Difference;
 use aud_client::{Recording, Stay};
 use aud_node::Logs;
-use aud_session_facts::{Account, NotDue, positions_received, why_not_due};
+use aud_session_facts::{Account, positions_received, why_not_due};
 use std::alloc::{AllocError, Global};
 
 /// The causes of the difference, of those that a difference of its kind can have. The account is the session's, and
@@ -66,44 +65,18 @@ fn causes_by(
         → found.items
         ≡ causes_by (case_of recording.now account.now numbers.now made) difference facts) }
 {
+    let logs = recording.logs();
+    let turns = account.cert.turns.as_slice();
     match difference {
         Difference::Extra { position, .. } => extra_of(alloc, recording, account, facts, position),
-        Difference::Doubled { .. } => doubled_of(alloc, recording, account, numbers, facts),
-        Difference::Swapped { .. } => {
-            swapped_causes(
-                alloc,
-                recording.logs(),
-                account.cert.turns.as_slice(),
-                facts,
-            )
+        Difference::Doubled { .. } => {
+            let body = body_twice(recording, account.client, numbers, facts);
+            let stays = account.stays.as_slice();
+            doubled_causes(alloc, logs, turns, stays, body, facts)
         }
+        Difference::Swapped { .. } => swapped_causes(alloc, logs, turns, facts),
         Difference::Lost { .. } => lost_of(alloc, recording, account, facts),
     }
-}
-
-/// Those of an entry that came twice. The account is the session's, and these are the numbers of its stays.
-fn doubled_of(
-    alloc: Global,
-    recording: &Recording<'_>,
-    account: &Account<'_, '_>,
-    numbers: &[usize],
-    facts: Facts,
-) -> Result<Vec<Cause>, AllocError>
-    requires { IsMade recording.now account.now.cert.pid account.now.cert }
-    ensures { IfOk result (λ found.
-        (made : IsMade recording.now account.now.cert.pid account.now.cert)
-        → found.items
-        ≡ doubled_in (case_of recording.now account.now numbers.now made) facts) }
-{
-    let body = body_twice(recording, account.client, numbers, facts);
-    doubled_causes(
-        alloc,
-        recording.logs(),
-        account.cert.turns.as_slice(),
-        account.stays.as_slice(),
-        body,
-        facts,
-    )
 }
 
 /// Those of an entry that came twice, where this holds of a body of polling.
@@ -153,29 +126,6 @@ fn swapped_causes(
     )
 }
 
-/// Those of an entry that was lost, where this holds of the rooms at the break, and of a `leave`.
-fn lost_causes(
-    alloc: Global,
-    at_break: Option<Cause>,
-    due: &[u64],
-    leave: Option<Cause>,
-    facts: Facts,
-) -> Result<Vec<Cause>, AllocError>
-    ensures { IfOk result (λ found. found.items ≡ lost_causes at_break due.now leave facts) }
-{
-    let frame = facts.parted.again;
-    held(
-        alloc,
-        &[
-            at_break,
-            skipped_in_window(facts),
-            asked_past(due, facts),
-            is_taken_live(facts).then_some(Cause::LostLive { frame }),
-            leave,
-        ],
-    )
-}
-
 /// Those of an entry that was lost. The account is the session's.
 fn lost_of(
     alloc: Global,
@@ -201,39 +151,15 @@ fn lost_of(
         came.as_slice(),
         facts,
     )?;
-    lost_causes(alloc, at_break, account.due.as_slice(), leave, facts)
-}
-
-/// Those of an entry that was not due, where this holds of the rooms at the break, and of a change of rooms that is missing.
-fn extra_causes(
-    alloc: Global,
-    logs: &Logs<'_>,
-    pid: &str,
-    turns: &[Turn<'_>],
-    at_break: Option<Cause>,
-    missing: Option<Cause>,
-    due: &[u64],
-    why: &Option<NotDue<'_>>,
-    facts: Facts,
-) -> Result<Vec<Cause>, AllocError>
-    ensures { IfOk result (λ found. found.items
-        ≡ extra_causes logs.now pid.now turns.now at_break missing due.now
-        (option_map reason_of why.now) facts) }
-{
-    let behind = node_behind(logs, turns, facts);
-    let left = late_leave(logs, pid, turns, facts.parted.position, why);
+    let frame = facts.parted.again;
     held(
         alloc,
         &[
-            behind,
             at_break,
-            other_session_before(due, facts),
-            log_ended_early(logs, pid, turns, why),
-            sent_after_end(logs, pid, turns, why, facts),
-            left,
-            before_birth(logs, turns, why),
-            extra_live(behind.or(left), why, facts),
-            missing,
+            skipped_in_window(facts),
+            asked_past(account.due.as_slice(), facts),
+            is_taken_live(facts).then_some(Cause::LostLive { frame }),
+            leave,
         ],
     )
 }
@@ -262,16 +188,21 @@ fn extra_of(
     let spans = account.cert.spans.as_slice();
     let came = positions_received(alloc, stays)?;
     let missing = change_missing(alloc, logs, pid, turns, spans, came.as_slice(), &why, facts)?;
-    extra_causes(
+    let behind = node_behind(logs, turns, facts);
+    let left = late_leave(logs, pid, turns, facts.parted.position, &why);
+    held(
         alloc,
-        logs,
-        pid,
-        turns,
-        at_break,
-        missing,
-        account.due.as_slice(),
-        &why,
-        facts,
+        &[
+            behind,
+            at_break,
+            other_session_before(account.due.as_slice(), facts),
+            log_ended_early(logs, pid, turns, &why),
+            sent_after_end(logs, pid, turns, &why, facts),
+            left,
+            before_birth(logs, turns, &why),
+            extra_live(behind.or(left), &why, facts),
+            missing,
+        ],
     )
 }
 

@@ -1,6 +1,6 @@
 //! What is shown of a text around a byte.
 ghost use Rattle.std.specs.Prelude.{◌≡◌, ◌++◌, OnOk, string_bytes};
-ghost use Rattle.aud_causes.specs.Excerpt.{around, excerpt, left_out, points, shown_from};
+ghost use Rattle.aud_causes.specs.Excerpt.{around, excerpt, points, shown_from};
 
 use std::alloc::AllocError;
 
@@ -12,17 +12,10 @@ const NEAR: usize = 24;
 pub(crate) fn push_excerpt(out: &mut String, text: &str, at: usize) -> Result<(), AllocError>
     ensures { OnOk result (string_bytes out.new ≡ string_bytes out.old ++ excerpt text.now at) }
 {
-    push_left_out(out, at.saturating_sub(NEAR))?;
-    push_around(out, text, at)
-}
-
-fn push_left_out(out: &mut String, from: usize) -> Result<(), AllocError>
-    ensures { OnOk result (string_bytes out.new ≡ string_bytes out.old ++ left_out from) }
-{
-    if from > 0 {
+    if at.saturating_sub(NEAR) > 0 {
         push_points(out)?;
     }
-    Ok(())
+    push_around(out, text, at)
 }
 
 fn push_points(out: &mut String) -> Result<(), AllocError>

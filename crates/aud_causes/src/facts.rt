@@ -74,44 +74,26 @@ fn parted_at(stays: &[&Stay<'_>], difference: Difference) -> (Parted, usize)
     ensures parted { result.0 ≡ parted_at difference }
     ensures earlier { result.1 ≡ earlier_stay (map (λ stay. stay.now) stays.now) difference }
 {
-    match difference {
-        Difference::Extra { frame, position } => {
-            let parted = Parted {
-                position,
-                first: 0,
-                again: frame,
-            };
-            (parted, 0)
-        }
+    let (position, first, again) = match difference {
+        Difference::Extra { frame, position } => (position, 0, frame),
         Difference::Doubled {
             first,
             again,
             position,
-        } => {
-            let parted = Parted {
-                position,
-                first,
-                again,
-            };
-            (parted, stay_of_frame(stays, first))
-        }
-        Difference::Swapped { frame, due, later } => {
-            let parted = Parted {
-                position: due,
-                first: frame,
-                again: later,
-            };
-            (parted, stay_of_frame(stays, frame))
-        }
-        Difference::Lost { frame, due } => {
-            let parted = Parted {
-                position: due,
-                first: frame,
-                again: frame,
-            };
-            (parted, stay_of_frame(stays, frame))
-        }
-    }
+        } => (position, first, again),
+        Difference::Swapped { frame, due, later } => (due, frame, later),
+        Difference::Lost { frame, due } => (due, frame, frame),
+    };
+    let earlier = match difference {
+        Difference::Extra { .. } => 0,
+        _ => stay_of_frame(stays, first),
+    };
+    let parted = Parted {
+        position,
+        first,
+        again,
+    };
+    (parted, earlier)
 }
 
 /// Whether the stay with this number is a recovery.

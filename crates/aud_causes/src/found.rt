@@ -1,8 +1,8 @@
 //! Causes that were found, as they are told.
-ghost use Rattle.std.specs.Prelude.{◌≡◌, IfOk, IfSome, map, string_bytes};
+ghost use Rattle.std.specs.Prelude.{◌≡◌, IfOk, IfSome, map};
 ghost use Rattle.std.specs.Option.{option_copied};
 ghost use Rattle.aud_rows.specs.ClientPlaces.{AreOf};
-ghost use Rattle.aud_causes.specs.Found.{cause_seen, shown_cause, shown_causes, why_told};
+ghost use Rattle.aud_causes.specs.Found.{cause_seen, shown_cause, shown_causes};
 ghost use Rattle.aud_causes.specs.Records.{place_of};
 
 use crate::cause::Cause;
@@ -13,7 +13,6 @@ use crate::state::{has_one_other, state_among};
 use crate::texts::push_texts;
 use crate::why::filled;
 use crate::words::words_of;
-use aud_client::Recording;
 use aud_explanation::CauseState;
 use aud_rows::{ClientPlaces, Sheet};
 use std::alloc::{AllocError, Global};
@@ -56,6 +55,7 @@ pub(crate) fn shown_causes(
     Ok(causes)
 }
 
+/// The cause, as it is told: what happened, and both texts where they part.
 fn shown_cause(
     alloc: Global,
     sheet: &Sheet<'_, '_>,
@@ -72,7 +72,9 @@ fn shown_cause(
     let words = words_of(cause);
     let shown = shown_of(cause);
     let lines = lines_at(alloc, sheet, tap, numbers, &shown.records)?;
-    let why = why_told(alloc, sheet.recording, place_of(tap), numbers, cause)?;
+    let recording = sheet.recording;
+    let mut why = filled(alloc, recording.logs(), words.why, &shown.figures)?;
+    push_texts(&mut why, recording, place_of(tap), numbers, cause)?;
     Ok(CauseFound {
         id: words.id,
         state,
@@ -80,22 +82,4 @@ fn shown_cause(
         why,
         todo: words.todo,
     })
-}
-
-/// What happened, and both texts where they part.
-fn why_told(
-    alloc: Global,
-    recording: &Recording<'_>,
-    client: Option<usize>,
-    numbers: &[usize],
-    cause: Cause,
-) -> Result<String, AllocError>
-    ensures { IfOk result (λ why. string_bytes why
-        ≡ why_told recording.now client numbers.now cause) }
-{
-    let words = words_of(cause);
-    let shown = shown_of(cause);
-    let mut why = filled(alloc, recording.logs(), words.why, &shown.figures)?;
-    push_texts(&mut why, recording, client, numbers, cause)?;
-    Ok(why)
 }

@@ -2,7 +2,7 @@
 ghost use Rattle.std.specs.Prelude.{◌≡◌, IfOk};
 ghost use Rattle.aud_maker.specs.Made.{IsMade};
 ghost use Rattle.aud_causes.specs.Differences.{case_of};
-ghost use Rattle.aud_causes.specs.Judged.{causes_found, judged_causes};
+ghost use Rattle.aud_causes.specs.Judged.{judged_causes};
 
 use crate::cause::Cause;
 use crate::contents::content_causes;
@@ -41,34 +41,18 @@ pub(crate) fn judged_causes(
             held(alloc, &[Some(Cause::NotAPacket { why })])
         }
         Fault::Orphan => orphan_at(alloc, recording, account.client, orphan),
-        _ => causes_found(alloc, recording, account, numbers, account.found_for(fault)),
-    }
-}
-
-/// The causes of what was found.
-fn causes_found(
-    alloc: Global,
-    recording: &Recording<'_>,
-    account: &Account<'_, '_>,
-    numbers: &[usize],
-    found: Option<Finding>,
-) -> Result<Vec<Cause>, AllocError>
-    requires { IsMade recording.now account.now.cert.pid account.now.cert }
-    ensures { IfOk result (λ causes.
-        (made : IsMade recording.now account.now.cert.pid account.now.cert)
-        → causes.items ≡ causes_found (case_of recording.now account.now numbers.now made) found) }
-{
-    match found {
-        Some(Finding::Content(altered)) => {
-            content_causes(alloc, recording, account.client, numbers, altered)
-        }
-        Some(Finding::Delivery(difference)) => {
-            difference_causes(alloc, recording, account, numbers, difference)
-        }
-        Some(Finding::Window(window)) => {
-            let logs = recording.logs();
-            window_causes(alloc, logs, &account.stays, &account.due, window)
-        }
-        _ => Ok(Vec::new(alloc)),
+        _ => match account.found_for(fault) {
+            Some(Finding::Content(altered)) => {
+                content_causes(alloc, recording, account.client, numbers, altered)
+            }
+            Some(Finding::Delivery(difference)) => {
+                difference_causes(alloc, recording, account, numbers, difference)
+            }
+            Some(Finding::Window(window)) => {
+                let logs = recording.logs();
+                window_causes(alloc, logs, &account.stays, &account.due, window)
+            }
+            _ => Ok(Vec::new(alloc)),
+        },
     }
 }

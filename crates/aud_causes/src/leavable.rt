@@ -1,17 +1,15 @@
 //! A `leave` that no log has, of an entry that was lost.
 ghost use Rattle.std.specs.Prelude.{◌≡◌, IfOk};
-ghost use Rattle.aud_session_facts.specs.Opened.{opened_in};
-ghost use Rattle.aud_causes.specs.Leavable.{are_leavable, leave_missing, own_room};
+ghost use Rattle.aud_causes.specs.Leavable.{are_leavable, leave_missing};
 
 use crate::cause::Cause;
-use crate::changed::fits_with_any;
+use crate::changed::{fits_with_any, opened_names};
 use crate::extra::rooms_named;
 use crate::facts::Facts;
 use crate::live::is_taken_live;
 use aud_cert::Turn;
 use aud_node::Logs;
 use aud_rooms::Span;
-use aud_session_facts::opened_in;
 use aud_tap::Text;
 use std::alloc::{AllocError, Global};
 
@@ -31,7 +29,8 @@ pub(crate) fn leave_missing(
 {
     let position = facts.parted.position;
     let rooms = rooms_named(logs.stream().entry(position));
-    if !is_taken_live(facts) || !are_leavable(own_room(turns), rooms) {
+    let (own, _) = opened_names(turns);
+    if !is_taken_live(facts) || !are_leavable(own, rooms) {
         return Ok(None);
     }
     if !fits_with_any(alloc, logs, pid, turns, spans, came, false, position, rooms)? {
@@ -40,16 +39,6 @@ pub(crate) fn leave_missing(
     Ok(Some(Cause::LeaveMissing {
         frame: facts.parted.again,
     }))
-}
-
-/// The room that is named by the sid of the session's `open`.
-fn own_room<'a>(turns: &[Turn<'a>]) -> &'a str
-    ensures { result.now ≡ own_room (opened_in turns.now) }
-{
-    match opened_in(turns) {
-        Some(opened) => opened.sid,
-        None => "",
-    }
 }
 
 /// Whether these are rooms, and none of them is the session's own.

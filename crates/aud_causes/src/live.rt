@@ -17,16 +17,9 @@ pub(crate) fn is_replayed(replay: Replay, position: u64) -> bool
 pub(crate) fn is_outside(facts: Facts) -> bool
     ensures { result ≡ is_outside facts }
 {
-    if !facts.matched {
-        return false;
-    }
-    if !facts.recovered {
-        return true;
-    }
-    match facts.replay {
-        Some(replay) => !is_replayed(replay, facts.parted.position),
-        None => false,
-    }
+    let position = facts.parted.position;
+    let missed = matches!(facts.replay, Some(replay) if !is_replayed(replay, position));
+    facts.matched && (!facts.recovered || missed)
 }
 
 /// Whether the two frames stand in one stay, and the entry came in no replay.
@@ -40,29 +33,17 @@ pub(crate) fn is_live(facts: Facts) -> bool
 pub(crate) fn is_in_replay(facts: Facts) -> bool
     ensures { result ≡ is_in_replay facts }
 {
-    if facts.earlier != facts.later {
-        return false;
-    }
-    match facts.replay {
-        Some(replay) => is_replayed(replay, facts.parted.position),
-        None => false,
-    }
+    let position = facts.parted.position;
+    let replayed = matches!(facts.replay, Some(replay) if is_replayed(replay, position));
+    facts.earlier == facts.later && replayed
 }
 
 /// Whether the stays match the turns, and the node took the entry after it took the session back, if it did so.
 pub(crate) fn is_taken_live(facts: Facts) -> bool
     ensures { result ≡ is_taken_live facts }
 {
-    if !facts.matched {
-        return false;
-    }
-    if !facts.recovered {
-        return true;
-    }
-    match facts.replay {
-        Some(replay) => replay.low < facts.parted.position,
-        None => false,
-    }
+    let past = matches!(facts.replay, Some(replay) if replay.low < facts.parted.position);
+    facts.matched && (!facts.recovered || past)
 }
 
 /// Where this is the first position past the cursor of the turn that came in the stay.

@@ -1,7 +1,7 @@
 //! What a fault of the nodes' logs may come from.
 ghost use Rattle.std.specs.Prelude.{◌≡◌, ◌<◌, IfOk, length, map, suc};
 ghost use Rattle.aud_node.specs.Cursors.{cursor_at};
-ghost use Rattle.aud_causes.specs.Logs.{first_cause, later_cause, not_the_next, order_cause, recoveries, taken_again};
+ghost use Rattle.aud_causes.specs.Logs.{first_cause, later_cause, order_cause, recoveries, taken_again};
 
 use crate::cause::Cause;
 use crate::facts::is_recovery;
@@ -74,7 +74,14 @@ fn later_cause(stream: &Stream<'_>, place: RecordPlace, cursor: u64, rec: &NodeR
     match rec {
         NodeRec::Start { .. } => Some(Cause::RestartedInOldLog { start: place }),
         NodeRec::Take { off } => match stream.position(off.as_str()) {
-            Some(position) => not_the_next(place, cursor, position),
+            Some(position) if position > cursor && position - cursor > 1 => {
+                Some(Cause::EntriesSkippedByNode {
+                    taken: place,
+                    cursor,
+                    position,
+                })
+            }
+            Some(position) => taken_again(place, cursor, position),
             None => Some(Cause::NotInStream { taken: place }),
         },
         NodeRec::Takes { off } => match stream.position(off.as_str()) {
@@ -83,20 +90,6 @@ fn later_cause(stream: &Stream<'_>, place: RecordPlace, cursor: u64, rec: &NodeR
         },
         _ => None,
     }
-}
-
-/// Where the node has taken the entry, or it stands past the next one.
-fn not_the_next(place: RecordPlace, cursor: u64, position: u64) -> Option<Cause>
-    ensures { result ≡ not_the_next place cursor position }
-{
-    if position <= cursor || position - cursor == 1 {
-        return taken_again(place, cursor, position);
-    }
-    Some(Cause::EntriesSkippedByNode {
-        taken: place,
-        cursor,
-        position,
-    })
 }
 
 /// Where the node has taken the entry.

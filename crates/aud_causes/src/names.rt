@@ -2,7 +2,7 @@
 ghost use Rattle.std.specs.Prelude.{◌≡◌, IfOk, length, map};
 ghost use Rattle.aud_client.specs.Received.{transcript_at};
 ghost use Rattle.aud_client.specs.Replies.{naming_places};
-ghost use Rattle.aud_causes.specs.Names.{client_causes, has_unanswered, has_unnamed, is_unanswered, names_causes, namespace_differs, sid_differs, unnamed_from};
+ghost use Rattle.aud_causes.specs.Names.{client_causes, has_unnamed, is_unanswered, names_causes, namespace_differs, sid_differs, unnamed_from};
 
 use crate::bare::tap_without_packets;
 use crate::cause::Cause;
@@ -67,20 +67,9 @@ fn has_unnamed(alloc: Global, recording: &Recording<'_>, place: usize) -> Result
     if transcript.orphan {
         return Ok(true);
     }
-    has_unanswered(alloc, recording, place, transcript.stays.as_slice())
-}
-
-/// Whether one of these stays, which are all of the client's tap at this place, was not answered.
-fn has_unanswered(
-    alloc: Global,
-    recording: &Recording<'_>,
-    client: usize,
-    stays: &[Stay<'_>],
-) -> Result<bool, AllocError>
-    ensures { IfOk result (λ has. has ≡ has_unanswered recording.now client 0 stays.now) }
-{
+    let stays = transcript.stays.as_slice();
     for (number, stay) in stays.iter().enumerate() {
-        if is_unanswered(alloc, recording, client, number, stay)? {
+        if is_unanswered(alloc, recording, place, number, stay)? {
             return Ok(true);
         }
     }

@@ -1,6 +1,6 @@
 //! Why a record of the client's tap is no packet, and what to do about it.
 ghost use Rattle.std.specs.Prelude.{◌≡◌, IfOk, flat_map, option_to_list};
-ghost use Rattle.aud_causes.specs.NoPacket.{advice, no_packet_figures, no_packet_in, no_packet_words, refusal_advice};
+ghost use Rattle.aud_causes.specs.NoPacket.{advice, no_packet_figures, no_packet_in, no_packet_words};
 
 use crate::why::Figure;
 use aud_client::Recording;
@@ -63,17 +63,10 @@ pub(crate) fn no_packet_figures(why: Option<NoPacket>) -> [Option<Figure>; 3]
 pub(crate) fn advice(why: Option<NoPacket>) -> &'static str
     ensures { result.now ≡ advice why }
 {
-    match why {
-        Some(found) => refusal_advice(found.refusal, found.packet),
-        None => "record what came as it came: a text as a text, and bytes as bytes.",
-    }
-}
-
-/// What to do about this refusal, of a packet with a number where it is of a polling body.
-fn refusal_advice(refusal: Refusal, packet: Option<usize>) -> &'static str
-    ensures { result.now ≡ refusal_advice refusal packet }
-{
-    match (refusal, packet) {
+    let Some(found) = why else {
+        return "record what came as it came: a text as a text, and bytes as bytes.";
+    };
+    match (found.refusal, found.packet) {
         (Refusal::Engine(_), Some(_)) =>
             "record bodies of polling as they came, and of answers with status 200 alone.",
         (Refusal::Socket(SioFault::TextWhileBinary), _) =>

@@ -1,10 +1,9 @@
 //! What events may come from of which nobody knows the session.
-ghost use Rattle.std.specs.Prelude.{◌≡◌, ◌++◌, IfOk, None, OnOk, map, slice_get};
-ghost use Rattle.std.specs.List.{list_any};
+ghost use Rattle.std.specs.Prelude.{◌≡◌, ◌++◌, IfOk, None, OnOk, slice_get};
 ghost use Rattle.std.specs.Option.{option_copied};
 ghost use Rattle.aud_eio.specs.Packet.{engine_view};
 ghost use Rattle.aud_session_facts.specs.Recoveries.{stays_at};
-ghost use Rattle.aud_causes.specs.Orphans.{began_late, carries_disconnect, causes_of_before, is_asked_first, is_disconnect, last_beside, last_of_stay, next_of_stay, orphan_at, reply_lost, sends_disconnect, stay_before, unreplied_causes, without_reply};
+ghost use Rattle.aud_causes.specs.Orphans.{began_late, carries_disconnect, causes_of_before, is_asked_first, is_disconnect, last_of_stay, next_of_stay, orphan_at, reply_lost, stay_before, unreplied_causes, without_reply};
 
 use crate::bodies::{client_record, places_at};
 use crate::cause::Cause;
@@ -65,14 +64,13 @@ fn unreplied_causes(
         ≡ unreplied_causes recording.now client number stay.now) }
 {
     let asked_first = is_asked_first(recording, client, number);
-    let late = began_late(recording, client, number, stay, asked_first);
     let next = next_of_stay(recording, client, number);
     let before = stay_before(recording, client, number, stay);
     let connected = asked_first && before.is_none();
     let mut found = held(
         alloc,
         &[
-            without_reply(number, stay, next, late),
+            without_reply(recording, client, number, stay, next, asked_first),
             reply_lost(client, stay, connected, next),
         ],
     )?;
@@ -81,21 +79,30 @@ fn unreplied_causes(
 }
 
 /// Where the client asked for a session, and the connection doesn't go on, by the record that comes next; or where it did
-/// not ask, and the tap may have begun late.
+/// not ask, and nothing says that the tap has the connection from its beginning: the stay is the tap's first one, in its
+/// first connection, and doesn't begin with the client's CONNECT.
 fn without_reply(
+    recording: &Recording<'_>,
+    client: usize,
     number: usize,
     stay: &Stay<'_>,
     next: Option<&ClientRec>,
-    late: bool,
+    asked_first: bool,
 ) -> Option<Cause>
-    ensures { result ≡ without_reply number stay.now.asked (option_copied next.entry) late }
+    ensures { result ≡ without_reply number stay.now.asked (option_copied next.entry)
+        (began_late recording.now client number stay.now asked_first) }
 {
     match &stay.asked {
         Some(_) => {
             let may_be_cut = matches!(next, None | Some(ClientRec::Lost | ClientRec::Conn { .. }));
             may_be_cut.then_some(Cause::CutBeforeReply { stay: number })
         }
-        None => late.then_some(Cause::TapBeganLate { stay: number }),
+        None => match client_record(recording, client, 0) {
+            Some(ClientRec::Conn { c }) if number == 0 && *c == stay.c => {
+                (!asked_first).then_some(Cause::TapBeganLate { stay: number })
+            }
+            _ => None,
+        },
     }
 }
 
@@ -128,23 +135,6 @@ fn next_of_stay<'a>(
     client_record(recording, client, places.last as usize + 1)
 }
 
-/// Whether nothing says that the tap has the connection from its beginning: the stay is the tap's first one, in its
-/// first connection, and doesn't begin with the client's CONNECT.
-fn began_late(
-    recording: &Recording<'_>,
-    client: usize,
-    number: usize,
-    stay: &Stay<'_>,
-    asked_first: bool,
-) -> bool
-    ensures { result ≡ began_late recording.now client number stay.now asked_first }
-{
-    match client_record(recording, client, 0) {
-        Some(ClientRec::Conn { c }) if number == 0 && *c == stay.c => !asked_first,
-        _ => false,
-    }
-}
-
 /// Whether the stay with this number of the client's tap at this place begins with the client's CONNECT.
 fn is_asked_first(recording: &Recording<'_>, client: usize, number: usize) -> bool
     ensures { result ≡ is_asked_first recording.now client number }
@@ -152,10 +142,8 @@ fn is_asked_first(recording: &Recording<'_>, client: usize, number: usize) -> bo
     let Some(places) = places_at(recording, client).get(number) else {
         return false;
     };
-    match client_record(recording, client, places.first as usize) {
-        Some(ClientRec::TextOut { .. }) => true,
-        _ => false,
-    }
+    let first = client_record(recording, client, places.first as usize);
+    matches!(first, Some(ClientRec::TextOut { .. }))
 }
 
 /// The number of the last stay before it in its connection and namespace.
@@ -167,20 +155,14 @@ fn stay_before(
 ) -> Option<usize>
     ensures { result ≡ stay_before (stays_at recording.now client) number stay.now }
 {
-    match recording.client(client) {
-        Some(client) => last_beside(stay, front_of(&client.transcript().stays, number)),
-        None => None,
-    }
-}
-
-/// The number of the last of these stays that is of the same connection and namespace.
-fn last_beside(stay: &Stay<'_>, stays: &[Stay<'_>]) -> Option<usize>
-    ensures { result ≡ last_beside stay.now None 0 stays.now }
-{
+    let Some(client) = recording.client(client) else {
+        return None;
+    };
+    let front = front_of(&client.transcript().stays, number);
     let mut last = None;
-    for (number, other) in stays.iter().enumerate() {
+    for (place, other) in front.iter().enumerate() {
         if other.c == stay.c && other.nsp == stay.nsp {
-            last = Some(number);
+            last = Some(place);
         }
     }
     last
@@ -253,34 +235,17 @@ pub(crate) fn is_disconnect(
     let Some(rec) = rec else {
         return Ok(false);
     };
-    if sends_disconnect(alloc, nsp, rec)? {
-        return Ok(true);
+    if let ClientRec::TextOut { t } = rec {
+        return match decode_text(alloc, t.as_str()) {
+            Ok(packet) => carries_disconnect(alloc, nsp, &packet),
+            Err(EioFault::Memory) => Err(AllocError),
+            Err(_) => Ok(false),
+        };
     }
-    match packets_of(alloc, rec)? {
-        Some(packets) => carry_disconnect(alloc, nsp, packets.as_slice()),
-        None => Ok(false),
-    }
-}
-
-/// Whether the record is of the client's packet, and that is a DISCONNECT of this namespace.
-fn sends_disconnect(alloc: Global, nsp: &str, rec: &ClientRec) -> Result<bool, AllocError>
-    ensures { IfOk result (λ sends. sends ≡ sends_disconnect nsp.now rec.now) }
-{
-    let ClientRec::TextOut { t } = rec else {
+    let Some(packets) = packets_of(alloc, rec)? else {
         return Ok(false);
     };
-    match decode_text(alloc, t.as_str()) {
-        Ok(packet) => carries_disconnect(alloc, nsp, &packet),
-        Err(EioFault::Memory) => Err(AllocError),
-        Err(_) => Ok(false),
-    }
-}
-
-/// Whether one of these packets is a DISCONNECT of this namespace.
-fn carry_disconnect(alloc: Global, nsp: &str, packets: &[Eio<'_>]) -> Result<bool, AllocError>
-    ensures { IfOk result (λ carry. carry
-        ≡ list_any (carries_disconnect nsp.now) (map engine_view packets.now)) }
-{
+    let packets = packets.as_slice();
     for packet in packets {
         if carries_disconnect(alloc, nsp, packet)? {
             return Ok(true);

@@ -3,7 +3,7 @@ ghost use Rattle.std.specs.Prelude.{◌≡◌, ◌∷◌, [], IfOk, None, Some, 
 ghost use Rattle.aud_session_facts.specs.Recoveries.{stays_at};
 ghost use Rattle.aud_rows.specs.ClientPlaces.{AreOf};
 ghost use Rattle.aud_causes.specs.Found.{cause_seen, shown_causes};
-ghost use Rattle.aud_causes.specs.Refusals.{asked_causes, asked_too_early, cursor_there, first_open, got_of, last_break, never_broken, node_ended, offset_cause, refusal_causes, refused_causes, session_over, stay_causes};
+ghost use Rattle.aud_causes.specs.Refusals.{asked_causes, asked_too_early, first_open, got_of, last_break, never_broken, node_ended, offset_cause, refusal_causes, refused_causes, session_over, stay_causes};
 ghost use Rattle.aud_causes.specs.TakenBack.{marks_before};
 
 use crate::cause::Cause;
@@ -49,28 +49,13 @@ fn refusal_causes(
     ensures { IfOk result (λ found. found.items ≡ refusal_causes recording.now
         (stays_at recording.now recovery.now.client) recovery.now.stay) }
 {
-    match recording.client(recovery.client) {
-        Some(client) => causes_in(
-            alloc,
-            recording.logs(),
-            &client.transcript().stays,
-            recovery.stay,
-        ),
-        None => Ok(Vec::new(alloc)),
-    }
-}
-
-/// Those where it was refused in the stay with this number, of these of its client's tap.
-fn causes_in(
-    alloc: Global,
-    logs: &Logs<'_>,
-    stays: &[Stay<'_>],
-    number: usize,
-) -> Result<Vec<Cause>, AllocError>
-    ensures { IfOk result (λ found. found.items ≡ refusal_causes logs.now stays.now number) }
-{
+    let Some(client) = recording.client(recovery.client) else {
+        return Ok(Vec::new(alloc));
+    };
+    let stays = client.transcript().stays.as_slice();
+    let number = recovery.stay;
     match stays.get(number) {
-        Some(stay) => stay_causes(alloc, logs, stays, number, stay),
+        Some(stay) => stay_causes(alloc, recording.logs(), stays, number, stay),
         None => Ok(Vec::new(alloc)),
     }
 }
@@ -239,8 +224,8 @@ fn asked_too_early(logs: &Logs<'_>, marks: &[TurnMark], opening: &[TurnMark]) ->
 {
     let broke = last_break(marks)?;
     let begin = first_open(opening)?;
-    let high = cursor_there(logs, broke)?;
-    let low = cursor_there(logs, begin)?;
+    let high = logs.node(broke.node)?.cursor_after(broke.number)?;
+    let low = logs.node(begin.node)?.cursor_after(begin.number)?;
     if high <= low {
         return None;
     }
@@ -250,11 +235,4 @@ fn asked_too_early(logs: &Logs<'_>, marks: &[TurnMark], opening: &[TurnMark]) ->
         high,
         low,
     })
-}
-
-/// The node's cursor after the record at this place.
-fn cursor_there(logs: &Logs<'_>, place: RecordPlace) -> Option<u64>
-    ensures { result ≡ cursor_there logs.now place }
-{
-    logs.node(place.node)?.cursor_after(place.number)
 }

@@ -1,7 +1,7 @@
 //! Both texts of an event that isn't its entry, in the sentence of its cause.
 ghost use Rattle.std.specs.Prelude.{◌≡◌, ◌++◌, OnOk, string_bytes};
 ghost use Rattle.std.specs.Option.{option_and_then, option_copied};
-ghost use Rattle.aud_causes.specs.Texts.{apart_in, both_texts, frame_of, texts_told};
+ghost use Rattle.aud_causes.specs.Texts.{apart_in, frame_of, texts_told};
 
 use crate::cause::Cause;
 use crate::excerpt::push_excerpt;
@@ -36,10 +36,14 @@ pub(crate) fn push_texts(
     let Some(frame) = frame_of(recording, client, numbers, apart.frame) else {
         return Ok(());
     };
-    match recording.logs().stream().entry(frame.position) {
-        Some(StreamRec::Ev(event)) => push_both(out, frame.text(), event.text.as_str(), apart.at),
-        _ => Ok(()),
-    }
+    let Some(StreamRec::Ev(event)) = recording.logs().stream().entry(frame.position) else {
+        return Ok(());
+    };
+    out.push_str(" It has ")?;
+    push_excerpt(out, frame.text(), apart.at)?;
+    out.push_str(", and the entry has ")?;
+    push_excerpt(out, event.text.as_str(), apart.at)?;
+    out.push_str(" there.")
 }
 
 /// Where the cause says that texts part.
@@ -73,16 +77,4 @@ pub(crate) fn frame_of<'r, 'a>(
     let place = frame_in(recording, client, numbers, frame)?;
     let stays = &recording.client(client)?.transcript().stays;
     stays.get(place.stay)?.frames.get(place.frame)
-}
-
-/// Adds what both have around this byte.
-fn push_both(out: &mut String, came: &str, event: &str, at: usize) -> Result<(), AllocError>
-    ensures { OnOk result (string_bytes out.new
-        ≡ string_bytes out.old ++ both_texts came.now event.now at) }
-{
-    out.push_str(" It has ")?;
-    push_excerpt(out, came, at)?;
-    out.push_str(", and the entry has ")?;
-    push_excerpt(out, event, at)?;
-    out.push_str(" there.")
 }

@@ -3,7 +3,7 @@ ghost use Rattle.std.specs.Prelude.{◌≡◌, ◌++◌, ◌<◌, IfOk, OnOk, le
 ghost use Rattle.std.specs.Option.{option_copied};
 ghost use Rattle.aud_causes.specs.Chain.{causes_of_marks, chain_causes};
 ghost use Rattle.aud_causes.specs.Private.Noting.{break_in, with_begin};
-ghost use Rattle.aud_causes.specs.Turns.{after_begin, begins_of, begun_turn, breaks_of, broken_turn, ended_by, ends_of, is_after_begin, is_untapped, missing_back, missing_break, missing_breaks, not_tapped, recovery_after, turn_count, unbegun};
+ghost use Rattle.aud_causes.specs.Turns.{after_begin, begins_of, begun_turn, breaks_of, broken_turn, ended_by, ends_of, is_after_begin, is_untapped, missing_back, missing_break, missing_breaks, not_tapped, turn_count, unbegun};
 
 use crate::cause::Cause;
 use crate::cleared::push_cleared;
@@ -250,7 +250,8 @@ fn push_missing(
     Ok(())
 }
 
-/// The same of this turn, where these are the client's recoveries.
+/// The same of this turn, where these are the client's recoveries: the one after the turn has its number, where they match
+/// the turns.
 fn missing_break(
     begins: &[Option<RecordPlace>],
     broken: &[bool],
@@ -268,23 +269,18 @@ fn missing_break(
         begins.get(turn + 1),
     ) {
         (Some(Some(begin)), Some(false), Some(false), Some(Some(back))) => {
+            let matched = came.len() == begins.len().saturating_sub(1);
             Some(Cause::MissingBreak {
                 turn,
                 begin: *begin,
                 back: *back,
-                stay: recovery_after(begins.len(), came, turn),
+                stay: if matched {
+                    came.get(turn).copied()
+                } else {
+                    None
+                },
             })
         }
         _ => None,
     }
-}
-
-/// The recovery after this turn, where the recoveries match so many turns.
-fn recovery_after(count: usize, came: &[usize], turn: usize) -> Option<usize>
-    ensures { result ≡ recovery_after count came.now turn }
-{
-    if came.len() != count.saturating_sub(1) {
-        return None;
-    }
-    came.get(turn).copied()
 }

@@ -1,9 +1,8 @@
 //! A turn for which two records take the session back.
 ghost use Rattle.std.specs.Prelude.{◌≡◌, ◌++◌, OnOk};
-ghost use Rattle.aud_causes.specs.Twice.{back_turn, causes_of_twice, is_as_often, is_written_again, opened_twice, turn_not_stored, twice_at, twice_by, twice_causes};
+ghost use Rattle.aud_causes.specs.Twice.{causes_of_twice, is_as_often, is_written_again, opened_twice, turn_not_stored, twice_at, twice_by, twice_causes};
 
 use crate::cause::Cause;
-use crate::last_turn::is_turn;
 use crate::list::push_some;
 use aud_session_facts::{Mark, RecordPlace, TurnMark};
 use std::alloc::AllocError;
@@ -64,7 +63,10 @@ fn twice_by(
 ) -> Option<Twice>
     ensures { result ≡ twice_by begins.now before mark }
 {
-    let turn = back_turn(mark.mark)? as usize;
+    let Mark::Back { turn } = mark.mark else {
+        return None;
+    };
+    let turn = turn as usize;
     let again = mark.place;
     if is_written_again(turn, again, before) {
         return None;
@@ -91,18 +93,9 @@ fn is_written_again(turn: usize, place: RecordPlace, before: Option<TurnMark>) -
     if before.place.node != place.node {
         return false;
     }
-    is_turn(turn, back_turn(before.mark))
-}
-
-/// The turn for which the record takes the session back, if it is a `back`.
-fn back_turn(mark: Mark) -> Option<u16>
-    ensures { result ≡ back_turn mark }
-{
-    match mark {
-        Mark::Back { turn } => Some(turn),
-        Mark::Open => None,
-        Mark::Break { .. } => None,
-        Mark::Gone => None,
+    match before.mark {
+        Mark::Back { turn: other } => turn == other as usize,
+        _ => false,
     }
 }
 
