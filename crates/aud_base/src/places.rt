@@ -1,12 +1,10 @@
 //! An index from a text to the places where it stands.
-ghost use Rattle.std.specs.Prelude.{◌≡◌, ◌-◌, List, ℕ, IfSome, OnOk, None, Some, [], ◌<◌, length, slice_get};
+ghost use Rattle.std.specs.Prelude.{◌≡◌, ◌-◌, List, ℕ, OnOk, None, Some, [], ◌<◌, length, slice_get};
 ghost use Rattle.std.specs.HashMap.{get_by_text};
 ghost use Rattle.std.specs.Str.{bytes_eq};
 ghost use Rattle.aud_base.specs.FirstTexts.{with_text};
 ghost use Rattle.aud_base.specs.Places.{is_place, noted, places_of, texts_of, with_place};
 
-use crate::hints::Hints;
-use crate::mixed::mixed_name;
 use indexmap::IndexMap;
 use smallvec::SmallVec;
 use std::alloc::{AllocError, Global};
@@ -21,8 +19,6 @@ use std::hash::RandomState;
 pub struct Places {
     alloc: Global,
     by_text: IndexMap<String, Few, RandomState>,
-    /// The texts' numbers, by their bytes.
-    hints: Hints,
 }
 
 /// Places of one text. Most texts stand at one or two, which need no block of their own.
@@ -37,7 +33,6 @@ impl Places {
         Places {
             alloc,
             by_text: IndexMap::with_hasher(alloc, keys),
-            hints: Hints::new(alloc),
         }
     }
 
@@ -63,25 +58,10 @@ impl Places {
     pub fn of(&self, text: &str) -> &[usize]
         ensures { result.now ≡ places_of self.now text.now }
     {
-        if let Some(places) = self.guessed(text) {
-            return places;
-        }
         match self.by_text.get(text) {
             Some(places) => places.as_slice(),
             None => &[],
         }
-    }
-
-    /// The places of the text, where a hint is right: so its bytes need no hash.
-    fn guessed(&self, text: &str) -> Option<&[usize]>
-        ensures { IfSome result (λ places. places.now ≡ places_of self.now text.now) }
-    {
-        let number = self.hints.get(mixed_name(text.as_bytes()))?;
-        let (known, places) = self.by_text.get_index(number)?;
-        if known.as_str() != text {
-            return None;
-        }
-        Some(places.as_slice())
     }
 
     /// The text stands at this place, the last so far; it is noted once, however often it stands there. The text is
@@ -110,8 +90,6 @@ impl Places {
         let own = String::from_str(self.alloc, text)?;
         let mut first = SmallVec::new(self.alloc);
         first.push(place)?;
-        self.hints
-            .note(mixed_name(text.as_bytes()), self.by_text.len())?;
         self.by_text.insert(own, first)?;
         Ok(())
     }
