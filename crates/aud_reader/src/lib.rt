@@ -22,6 +22,7 @@
 mod bundle;
 mod fault;
 mod law;
+mod limits;
 mod line;
 mod lines;
 mod read;
@@ -30,7 +31,8 @@ mod splitter;
 pub use bundle::{BundleReader, read_bundle};
 pub use fault::{InputCode, ReadFault};
 pub use law::lines_in_any_pieces;
+pub use limits::{MAX_CLIENT_TAPS, MAX_ENTRIES, MAX_NODE_TAPS, MAX_PIDS, MAX_RECORDS};
 pub use line::{LentLine, Line, next_line};
 pub use lines::Lines;
-pub use read::{is_client_kind, parse_line, tap_kind, tap_of_kind};
+pub use read::{cut_at_blank, is_client_kind, parse_line, tap_kind, tap_name, tap_of_kind};
 pub use splitter::Splitter;

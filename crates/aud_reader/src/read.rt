@@ -11,3 +11,4 @@ pub mod tap_name;
 pub use header::tap_kind;
 pub use line::parse_line;
 pub use record::{is_client_kind, tap_of_kind};
+pub use tap_name::{cut_at_blank, tap_name};

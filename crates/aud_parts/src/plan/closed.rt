@@ -8,8 +8,8 @@ ghost use Rattle.aud_parts.specs.Plan.{HasRoom, IsClosed, StaysWhole};
 
 use crate::clients::measured::MeasuredClient;
 use crate::plan::Plan;
-use crate::plan::fault::{MAX_CLIENT_TAPS, MAX_SESSIONS};
 use crate::plan::units::is_started;
+use aud_reader::{MAX_CLIENT_TAPS, MAX_PIDS};
 use aud_tap::{NodeRecs, Records, Tap, Text};
 
 /// Whether each session has one of the parts, each client's tap has that of all its sessions, and one part has all
@@ -41,7 +41,7 @@ pub(crate) fn is_sound(taps: &[Tap], clients: &[MeasuredClient], plan: &Plan) ->
         }
     }
     for part in 0..plan.weights.len() {
-        if plan.session_count(part) > MAX_SESSIONS {
+        if plan.session_count(part) > MAX_PIDS {
             return false;
         }
         if plan.client_count(part) > MAX_CLIENT_TAPS {

@@ -5,15 +5,6 @@ ghost use Rattle.aud_parts.specs.declared.plan.fault.PlanFault.TheVariants.{Memo
 use std::alloc::{AllocError, AllocFailed};
 use thiserror::Error;
 
-/// The most taps of clients in a bundle.
-pub(crate) const MAX_CLIENT_TAPS: usize = 4_096;
-
-/// The most sessions in a bundle.
-pub(crate) const MAX_SESSIONS: usize = 65_536;
-
-/// The most taps of nodes in a bundle.
-pub(crate) const MAX_NODE_TAPS: u32 = 64;
-
 /// A limit of a part, in words: that of a bundle.
 #[derive(Debug, Drop, Error)]
 pub enum Limit {

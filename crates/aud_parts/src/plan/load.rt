@@ -1,5 +1,6 @@
 //! What sessions bring to the part that has them.
-use crate::plan::fault::{Limit, MAX_CLIENT_TAPS, MAX_NODE_TAPS, MAX_SESSIONS};
+use crate::plan::fault::Limit;
+use aud_reader::{MAX_CLIENT_TAPS, MAX_NODE_TAPS, MAX_PIDS};
 use std::alloc::{AllocError, Global};
 
 /// How many places a word has.
@@ -35,14 +36,14 @@ impl Load {
         if self.clients.saturating_add(other.clients) > MAX_CLIENT_TAPS {
             return Some(Limit::Clients);
         }
-        if self.sessions.saturating_add(other.sessions) > MAX_SESSIONS {
+        if self.sessions.saturating_add(other.sessions) > MAX_PIDS {
             return Some(Limit::Sessions);
         }
-        let mut nodes = 0u32;
+        let mut nodes: usize = 0;
         for number in 0..self.nodes.len().max(other.nodes.len()) {
             let own = self.nodes.get(number).copied().unwrap_or(0);
             let others = other.nodes.get(number).copied().unwrap_or(0);
-            nodes = nodes.saturating_add((own | others).count_ones());
+            nodes = nodes.saturating_add((own | others).count_ones() as usize);
         }
         if nodes > MAX_NODE_TAPS {
             return Some(Limit::Nodes);

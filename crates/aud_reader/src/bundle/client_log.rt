@@ -7,8 +7,8 @@ ghost use Rattle.aud_reader.specs.Steps.{Gives};
 ghost use Rattle.aud_reader.specs.Bundle.{client_room, with_client_record};
 ghost use Rattle.aud_reader.specs.Private.NewRecord.{with_new_client_record};
 
-use super::node_log::MAX_RECORDS;
 use crate::fault::{FIELD, LIMIT, LineFault};
+use crate::limits::MAX_RECORDS;
 use crate::read::client::client_record;
 use aud_base::{Paged, TextPool};
 use aud_json::Fields;

@@ -6,15 +6,10 @@ ghost use Rattle.aud_reader.specs.Steps.{Fails};
 ghost use Rattle.aud_reader.specs.Bundle.{another_tap, no_records};
 
 use crate::fault::{InputCode, LIMIT, LineFault};
+use crate::limits::{MAX_CLIENT_TAPS, MAX_NODE_TAPS};
 use aud_tap::TapKind;
 
 const SECOND_STREAM: LineFault = LineFault::Code(InputCode::SecondStream);
-
-/// The most node taps.
-pub const MAX_NODE_TAPS: usize = 64;
-
-/// The most client taps.
-pub const MAX_CLIENT_TAPS: usize = 4_096;
 
 #[derive(Drop)]
 pub struct Counts {

@@ -11,15 +11,13 @@ ghost use Rattle.aud_reader.specs.Private.Texts.{HasPids};
 
 use super::pids::add_pid_of;
 use crate::fault::{LIMIT, LineFault, UNKNOWN_KIND};
+use crate::limits::MAX_RECORDS;
 use crate::read::node::{is_in_version, node_record};
 use aud_base::TextPool;
 use aud_json::Fields;
 use aud_tap::{NodeRec, NodeRecs, Text, Version};
 use std::collections::HashSet;
 use std::hash::RandomState;
-
-/// The most records of a node tap or a client tap.
-pub const MAX_RECORDS: usize = 4_000_000;
 
 /// Adds the pid that a record speaks of to those of all node records, where there is room after so many records.
 fn admit(

@@ -6,12 +6,10 @@ ghost use Rattle.aud_reader.specs.Bundle.{pids_fit};
 ghost use Rattle.aud_reader.specs.Private.Texts.{HasPids};
 
 use crate::fault::{LIMIT, LineFault};
+use crate::limits::MAX_PIDS;
 use aud_tap::{NodeRec, Text};
 use std::collections::HashSet;
 use std::hash::RandomState;
-
-/// The most different pids in the node records of a bundle.
-pub const MAX_PIDS: usize = 65_536;
 
 /// Adds a pid, unless there are too many.
 fn add_pid(pids: &mut HashSet<Text, RandomState>, pid: &Text) -> Result<(), LineFault>

@@ -8,6 +8,7 @@ ghost use Rattle.aud_reader.specs.Bundle.{entry_room, with_entry, with_new_entry
 
 use super::offsets::Offsets;
 use crate::fault::{LIMIT, LineFault};
+use crate::limits::MAX_ENTRIES;
 use crate::read::stream::stream_record;
 use aud_base::TextPool;
 use aud_json::Fields;
@@ -15,9 +16,6 @@ use aud_tap::{StreamRec, StreamRecs};
 use std::alloc::Global;
 use std::hash::RandomState;
 use std::marker::Model;
-
-/// The most entries of the stream.
-pub const MAX_ENTRIES: usize = 1_000_000;
 
 /// Adds the offset of an entry, unless it is there already, or there are too many entries.
 fn admit(
