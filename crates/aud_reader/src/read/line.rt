@@ -8,8 +8,8 @@ ghost use Rattle.aud_tap.specs.WellFormed.{is_well_formed};
 ghost use Rattle.aud_tap.specs.TapName.{is_tap_name};
 ghost use Rattle.aud_reader.specs.Record.{json_of, opened_line, line_record, value_record};
 
+use super::name::{cut_at_blank, tap_name};
 use super::record::value_record;
-use super::tap_name::{cut_at_blank, tap_name};
 use crate::fault::{InputCode, LineFault, ReadFault};
 use crate::line::Line;
 use aud_base::TextPool;
