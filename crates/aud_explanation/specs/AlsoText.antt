@@ -1,5 +1,5 @@
 -- The other entries with the same fault.
-use Rattle.std.specs.Prelude.{ℕ, List, [], ◌++◌, ◌==◌, codes, decimal, flat_map, if◌then◌else◌}
+use Rattle.std.specs.Prelude.{ℕ, List, [], ◌++◌, ◌==◌, codes, decimal, if◌then◌else◌}
 use Rattle.aud_explanation.specs.declared.also.Also.{Also}
 use Rattle.aud_explanation.specs.Page.{laid_line}
 use Rattle.aud_explanation.specs.Span.{lines_listed, span}
@@ -15,10 +15,6 @@ also_line also = also_words also.position also.to ++ span also.position also.to 
 -- their line
 abbrev pub also_text : Also → List ℕ
 also_text also = laid_line (also_line also)
-
--- a line for each
-abbrev pub others_text : List Also → List ℕ
-others_text others = flat_map also_text others
 
 -- the word for so many entries
 abbrev pub entries_word : ℕ → List ℕ

@@ -1,5 +1,5 @@
 -- The causes.
-use Rattle.std.specs.Prelude.{ℕ, Bool, true, false, not, ◌&&◌, List, [], ◌∷◌, ◌++◌, codes, decimal, flat_map, Some, None}
+use Rattle.std.specs.Prelude.{ℕ, Bool, true, false, not, ◌&&◌, List, [], ◌∷◌, ◌++◌, codes, decimal, Some, None}
 use Rattle.std.specs.Borrow.{Bor}
 use Rattle.std.specs.List.{list_any}
 use Rattle.aud_explanation.specs.declared.cause.Cause.{Cause}
@@ -8,7 +8,7 @@ use Rattle.aud_explanation.specs.declared.cause.CauseOf.TheVariants.{Fault, Refu
 use Rattle.aud_explanation.specs.declared.cause.CauseState.{CauseState}
 use Rattle.aud_explanation.specs.declared.cause.CauseState.TheVariants.{Fits}
 use Rattle.aud_explanation.specs.CauseState.{state_word}
-use Rattle.aud_explanation.specs.Long.{first_shown, last_shown, left_out, more_line}
+use Rattle.aud_explanation.specs.Long.{long_text}
 use Rattle.aud_explanation.specs.Page.{laid_line}
 use Rattle.aud_explanation.specs.Span.{lines_listed}
 
@@ -66,14 +66,6 @@ abbrev pub is_sole : List (Bor (List ℕ)) → List Cause → Bool
 is_sole [] (c ∷ causes) = is_of_fault c.of && not (has_own causes)
 is_sole refuted causes = false
 
--- these causes
-abbrev pub each_text : Bool → List Cause → List ℕ
-each_text sole causes = flat_map (cause_text sole) causes
-
--- those that are shown, and a line that says how many are left out
-abbrev pub shown_text : Bool → List Cause → List ℕ
-shown_text sole causes = each_text sole (first_shown causes) ++ more_line (left_out causes) ++ each_text sole (last_shown causes)
-
--- and before them that none of the fault holds, where it is so
+-- those that are shown, and before them that none of the fault holds, where it is so
 abbrev pub causes_text : List (Bor (List ℕ)) → List Cause → List ℕ
-causes_text refuted causes = none_text (none_holds refuted causes) ++ shown_text (is_sole refuted causes) causes
+causes_text refuted causes = none_text (none_holds refuted causes) ++ long_text (cause_text (is_sole refuted causes)) causes

@@ -1,5 +1,5 @@
 -- Long lists: of more than 200 elements the first 100 and the last 100 are shown.
-use Rattle.std.specs.Prelude.{ℕ, ◌+◌, ◌-◌, ◌==◌, List, [], ◌++◌, codes, decimal, drop, length, take, if◌then◌else◌}
+use Rattle.std.specs.Prelude.{ℕ, ◌+◌, ◌-◌, ◌==◌, List, [], ◌++◌, codes, decimal, drop, flat_map, length, take, if◌then◌else◌}
 
 -- how many of them are left out
 unfoldable pub left_out : {A : Type 0} → List A → ℕ
@@ -24,3 +24,7 @@ more_words n = codes ".. " ++ decimal n ++ codes " more .."
 -- the line that says it, where some are
 abbrev pub more_line : ℕ → List ℕ
 more_line n = if n == 0 then [] else codes "    " ++ more_words n ++ codes "\n"
+
+-- the lines of each that is shown, and one that says how many are left out, where some are
+abbrev pub long_text : {A : Type 0} → (A → List ℕ) → List A → List ℕ
+long_text lines_of xs = flat_map lines_of (first_shown xs) ++ more_line (left_out xs) ++ flat_map lines_of (last_shown xs)

@@ -8,52 +8,26 @@ use Rattle.aud_explanation.specs.Named.{name_words, named_words}
 use Rattle.aud_rows.specs.declared.row.Says.{Says}
 use Rattle.aud_rows.specs.declared.row.Says.TheVariants.{Entry, Start, Take, Takes, Open, Join, Leave, Break, Back, Gone, Asks, Reply, Got, Lost, Lacks, NoPacket}
 
--- what a client asks for, and where it asks to go on
-abbrev pub asks_words : Names → ℕ → List ℕ → Option (Bor (List ℕ)) → List ℕ
-asks_words names conn pid off = codes "conn " ++ decimal conn ++ codes " asks " ++ name_words names pid ++ named_words names (codes " after ") (option_copied off) (codes ", no offset")
-
--- the names of a reply
-abbrev pub names_words : Names → List ℕ → Option (Bor (List ℕ)) → List ℕ
-names_words names sid pid = codes ", sid " ++ name_words names sid ++ named_words names (codes ", pid ") (option_copied pid) (codes ", no pid")
-
--- what a client is answered
-abbrev pub reply_words : Names → ℕ → List ℕ → Option (Bor (List ℕ)) → List ℕ
-reply_words names conn sid pid = codes "conn " ++ decimal conn ++ codes " reply" ++ names_words names sid pid
-
--- an entry behind words, by its position and its offset
-abbrev pub entry_words : Names → List ℕ → ℕ → List ℕ → List ℕ
-entry_words names words position off = words ++ decimal position ++ codes " " ++ name_words names off
-
--- the session that opens
-abbrev pub open_words : Names → List ℕ → List ℕ → ℕ → List ℕ
-open_words names sid nsp cursor =
-    codes "open, sid " ++ name_words names sid ++ codes ", namespace " ++ name_words names nsp ++ codes ", cursor " ++ decimal cursor
-
--- the words that come first where a node takes several entries
-unfoldable pub takes_up : List ℕ
-takes_up = codes "takes up to "
-
--- how many attachments a packet lacks
-unfoldable pub lacks_words : ℕ → ℕ → List ℕ
-lacks_words conn missing = codes "conn " ++ decimal conn ++ codes " packet, attachments missing: " ++ decimal missing
-
 -- what the record says, with long names whole or short
 abbrev pub record_text : Names → Says → List ℕ
-record_text names (Entry position off) = entry_words names (codes "entry ") position off.now
+record_text names (Entry position off) = codes "entry " ++ decimal position ++ codes " " ++ name_words names off.now
 record_text names (Start cursor) = codes "start, cursor " ++ decimal cursor
-record_text names (Take position off) = entry_words names (codes "take ") position off.now
-record_text names (Takes position off) = entry_words names takes_up position off.now
-record_text names (Open sid nsp cursor) = open_words names sid.now nsp.now cursor
+record_text names (Take position off) = codes "take " ++ decimal position ++ codes " " ++ name_words names off.now
+record_text names (Takes position off) = codes "takes up to " ++ decimal position ++ codes " " ++ name_words names off.now
+record_text names (Open sid nsp cursor) =
+    codes "open, sid " ++ name_words names sid.now ++ codes ", namespace " ++ name_words names nsp.now ++ codes ", cursor " ++ decimal cursor
 record_text names (Join room) = codes "join " ++ name_words names room.now
 record_text names (Leave room) = codes "leave " ++ name_words names room.now
 record_text names (Break turn cursor) = codes "break " ++ decimal turn ++ codes ", cursor " ++ decimal cursor
 record_text names (Back turn cursor) = codes "back " ++ decimal turn ++ codes ", cursor " ++ decimal cursor
 record_text names Gone = codes "gone"
-record_text names (Asks conn pid off) = asks_words names conn pid.now off
-record_text names (Reply conn sid pid) = reply_words names conn sid.now pid
+record_text names (Asks conn pid off) =
+    codes "conn " ++ decimal conn ++ codes " asks " ++ name_words names pid.now ++ named_words names (codes " after ") (option_copied off) (codes ", no offset")
+record_text names (Reply conn sid pid) =
+    codes "conn " ++ decimal conn ++ codes " reply, sid " ++ name_words names sid.now ++ named_words names (codes ", pid ") (option_copied pid) (codes ", no pid")
 record_text names (Got conn position off) = codes "conn " ++ decimal conn ++ codes " got " ++ decimal position ++ codes " " ++ name_words names off.now
 record_text names (Lost conn) = codes "conn " ++ decimal conn ++ codes " lost"
-record_text names (Lacks conn missing) = lacks_words conn missing
+record_text names (Lacks conn missing) = codes "conn " ++ decimal conn ++ codes " packet, attachments missing: " ++ decimal missing
 record_text names (NoPacket conn) = codes "conn " ++ decimal conn ++ codes " no packet"
 
 -- the session that a record speaks of, where it isn't the one with this pid

@@ -1,12 +1,12 @@
 -- The recoveries that were refused.
-use Rattle.std.specs.Prelude.{ℕ, Bool, true, false, List, [], ◌++◌, codes, decimal, flat_map, length, Option, Some, None}
+use Rattle.std.specs.Prelude.{ℕ, Bool, true, false, List, [], ◌++◌, codes, decimal, length, Option, Some, None}
 use Rattle.std.specs.Option.{option_copied}
 use Rattle.aud_verdict.specs.declared.verdict.Verdict.{Verdict}
 use Rattle.aud_rows.specs.declared.row.Row.{Row}
 use Rattle.aud_input.specs.declared.input_file.InputFile.{InputFile}
 use Rattle.aud_explanation.specs.declared.refused.Missed.{Missed}
 use Rattle.aud_explanation.specs.declared.refused.RefusedRecovery.{RefusedRecovery}
-use Rattle.aud_explanation.specs.Long.{first_shown, last_shown, left_out, more_line}
+use Rattle.aud_explanation.specs.Long.{long_text}
 use Rattle.aud_explanation.specs.declared.name.Names.TheVariants.{Short}
 use Rattle.aud_explanation.specs.Named.{name_words, named_words}
 use Rattle.aud_explanation.specs.Page.{laid_line}
@@ -38,25 +38,21 @@ missed_line m = codes "    missed entry " ++ decimal m.position ++ codes " " ++ 
 abbrev pub missed_text : Missed → List ℕ
 missed_text m = laid_line (missed_line m)
 
--- a line for each that is shown, and one that says how many are left out, where they are known
-abbrev pub all_missed_text : Option (List Missed) → List ℕ
-all_missed_text (Some entries) = flat_map missed_text (first_shown entries) ++ more_line (left_out entries) ++ flat_map missed_text (last_shown entries)
-all_missed_text None = []
+-- the entries that it missed, where they are known
+abbrev pub entries_missed : Option (List Missed) → List Missed
+entries_missed (Some entries) = entries
+entries_missed None = []
 
 -- a line says so where no known cause of it holds
 abbrev pub unexplained_text : Bool → List ℕ
 unexplained_text true = []
 unexplained_text false = codes "no known cause of the refusal holds\n"
 
--- what the client got instead, the ask and the reply, what it missed, and whether a cause is known
+-- what the client got instead, the ask and the reply, what it missed, and whether a cause is known: of the session with
+-- this pid
 abbrev pub refused_text : List InputFile → List ℕ → Verdict → RefusedRecovery → List ℕ
-refused_text files pid verdict r = head_text r ++ row_text files pid verdict (length r.ask.tap.now) r.ask ++ reply_text files pid verdict (length r.ask.tap.now) r.reply ++ all_missed_text (option_copied r.missed) ++ unexplained_text r.has_cause
-
--- these: those of the session with this pid
-abbrev pub each_refused_text : List InputFile → List ℕ → Verdict → List RefusedRecovery → List ℕ
-each_refused_text files pid verdict recoveries = flat_map (refused_text files pid verdict) recoveries
+refused_text files pid verdict r = head_text r ++ row_text files pid verdict (length r.ask.tap.now) r.ask ++ reply_text files pid verdict (length r.ask.tap.now) r.reply ++ long_text missed_text (entries_missed (option_copied r.missed)) ++ unexplained_text r.has_cause
 
 -- those that are shown, and a line that says how many are left out
 abbrev pub all_refused_text : List InputFile → List ℕ → Verdict → List RefusedRecovery → List ℕ
-all_refused_text files pid verdict recoveries =
-    each_refused_text files pid verdict (first_shown recoveries) ++ more_line (left_out recoveries) ++ each_refused_text files pid verdict (last_shown recoveries)
+all_refused_text files pid verdict recoveries = long_text (refused_text files pid verdict) recoveries

@@ -1,12 +1,12 @@
 -- The text of an explanation.
-use Rattle.std.specs.Prelude.{ℕ, List, ◌++◌, length}
+use Rattle.std.specs.Prelude.{ℕ, List, ◌++◌, flat_map, length}
 use Rattle.aud_input.specs.declared.input_file.InputFile.{InputFile}
 use Rattle.aud_explanation.specs.declared.explanation.Explanation.{Explanation}
 use Rattle.aud_explanation.specs.ExplainedClass.{class_of_explained}
 use Rattle.aud_explanation.specs.Verdict.{verdict_text}
 use Rattle.aud_explanation.specs.Client.{client_text}
 use Rattle.aud_explanation.specs.Evidence.{evidence_text}
-use Rattle.aud_explanation.specs.AlsoText.{more_text, others_text}
+use Rattle.aud_explanation.specs.AlsoText.{also_text, more_text}
 use Rattle.aud_explanation.specs.AlikeText.{alike_text}
 use Rattle.aud_explanation.specs.TurnText.{turns_text}
 use Rattle.aud_explanation.specs.EventText.{events_text}
@@ -15,7 +15,7 @@ use Rattle.aud_explanation.specs.CauseText.{causes_text}
 
 -- the line of the verdict, that of the client, the evidence, and the other entries with the same fault
 abbrev pub shown_text : List InputFile → Explanation → List ℕ
-shown_text files e = verdict_text e.pid.now e.verdict.now (class_of_explained e) ++ client_text e.verdict.now e.client (length e.turns.now) e.account ++ evidence_text files e.pid.now e.verdict.now e.evidence.now ++ others_text e.also.now ++ more_text e.also_left
+shown_text files e = verdict_text e.pid.now e.verdict.now (class_of_explained e) ++ client_text e.verdict.now e.client (length e.turns.now) e.account ++ evidence_text files e.pid.now e.verdict.now e.evidence.now ++ flat_map also_text e.also.now ++ more_text e.also_left
 
 -- the rows of the turns and of the client, the refused recoveries, and the causes
 abbrev pub told_text : List InputFile → Explanation → List ℕ

@@ -1,11 +1,11 @@
 -- The rows of the turns.
-use Rattle.std.specs.Prelude.{ℕ, max, List, [], ◌++◌, codes, decimal, flat_map, fold, length, Option, Some, None}
+use Rattle.std.specs.Prelude.{ℕ, max, List, [], ◌++◌, codes, decimal, fold, length, Option, Some, None}
 use Rattle.aud_explanation.specs.declared.turn.TurnShown.{TurnShown}
 use Rattle.aud_explanation.specs.declared.turn.TurnBegin.{TurnBegin}
 use Rattle.aud_explanation.specs.declared.turn.TurnBegin.TheVariants.{Open, Back}
 use Rattle.aud_explanation.specs.declared.turn.TurnEnd.{TurnEnd}
 use Rattle.aud_explanation.specs.declared.turn.TurnEnd.TheVariants.{Break, Gone, Log, Missing}
-use Rattle.aud_explanation.specs.Long.{first_shown, last_shown, left_out, more_line}
+use Rattle.aud_explanation.specs.Long.{long_text}
 use Rattle.aud_explanation.specs.Page.{laid_line, to_left}
 use Rattle.aud_explanation.specs.Span.{span}
 
@@ -50,10 +50,6 @@ turn_line width t = names_words width t ++ begin_words t.begin t.begin_line t.lo
 abbrev pub turn_text : ℕ → TurnShown → List ℕ
 turn_text width t = laid_line (turn_line width t)
 
--- a row for each of these turns
-abbrev pub rows_text : ℕ → List TurnShown → List ℕ
-rows_text width turns = flat_map (turn_text width) turns
-
 -- a row for each turn that is shown, and a line that says how many are left out
 abbrev pub turns_text : List TurnShown → List ℕ
-turns_text turns = rows_text (node_width turns) (first_shown turns) ++ more_line (left_out turns) ++ rows_text (node_width turns) (last_shown turns)
+turns_text turns = long_text (turn_text (node_width turns)) turns

@@ -8,8 +8,10 @@ mod cause;
 mod client;
 mod event;
 mod evidence;
+mod lines;
 mod mark;
 mod page;
+mod piece;
 mod place;
 mod record;
 mod refused;
@@ -19,11 +21,12 @@ mod verdict;
 
 use crate::explanation::{Explanation, class_of_explained};
 use crate::text::alike::push_alike;
-use crate::text::also::{push_also, push_more};
+use crate::text::also::push_more;
 use crate::text::cause::push_causes;
 use crate::text::client::push_client;
 use crate::text::event::push_events;
 use crate::text::evidence::push_evidence;
+use crate::text::lines::{Page, push_each};
 pub(crate) use crate::text::place::push_place;
 pub(crate) use crate::text::record::{other_session, push_record};
 use crate::text::refused::push_refused;
@@ -45,10 +48,17 @@ fn push_shown(
     let (pid, verdict) = (explanation.pid, explanation.verdict);
     let (client, account) = (explanation.client, explanation.account);
     let turns = explanation.turns.len();
+    let page = Page {
+        files,
+        pid,
+        verdict,
+        width: 0,
+        sole: false,
+    };
     push_verdict(alloc, out, pid, verdict, class_of_explained(explanation))?;
     push_client(alloc, out, verdict, client, turns, account)?;
     push_evidence(alloc, out, files, pid, verdict, explanation.evidence)?;
-    push_also(alloc, out, explanation.also)?;
+    push_each(alloc, out, page, explanation.also)?;
     push_more(alloc, out, explanation.also_left)
 }
 
@@ -76,11 +86,17 @@ pub fn push_text(
     ensures { OnOk result (string_bytes out.new
         ≡ string_bytes out.old ++ explanation_text files.now explanation.now) }
 {
-    let (pid, verdict) = (explanation.pid, explanation.verdict);
+    let page = Page {
+        files,
+        pid: explanation.pid,
+        verdict: explanation.verdict,
+        width: 0,
+        sole: false,
+    };
     push_shown(alloc, out, files, explanation)?;
     push_alike(alloc, out, explanation.alike)?;
-    push_turns(alloc, out, explanation.turns)?;
+    push_turns(alloc, out, page, explanation.turns)?;
     push_events(alloc, out, explanation.events)?;
-    push_refused(alloc, out, files, pid, verdict, explanation.refused)?;
-    push_causes(alloc, out, explanation.refuted, explanation.causes)
+    push_refused(alloc, out, page, explanation.refused)?;
+    push_causes(alloc, out, page, explanation.refuted, explanation.causes)
 }

@@ -1,39 +1,31 @@
 //! The other entries with the same fault.
 ghost use Rattle.std.specs.Prelude.{◌≡◌, ◌++◌, OnOk, string_bytes};
-ghost use Rattle.aud_explanation.specs.AlsoText.{also_text, more_text, others_text};
+ghost use Rattle.aud_explanation.specs.AlsoText.{more_text};
 
 use crate::also::Also;
+use crate::text::lines::{Lines, Page};
 use crate::text::page::push_line;
 use crate::text::span::{push_lines, push_span};
 use std::alloc::{AllocError, Global};
 
-fn push_one(alloc: Global, out: &mut String, also: &Also<'_>) -> Result<(), AllocError>
-    ensures { OnOk result (string_bytes out.new ≡ string_bytes out.old ++ also_text also.now) }
-{
-    let mut line = String::new(alloc);
-    line.push_str(if also.position == also.to {
-        "    also entry "
-    } else {
-        "    also entries "
-    })?;
-    push_span(&mut line, also.position, also.to)?;
-    line.push_str(", ")?;
-    push_lines(&mut line, also.lines)?;
-    push_line(out, line.as_str())
-}
+/// A line: `also entries 3-5, lines 10 14`.
+impl<'r> Lines for Also<'r> {
+    ghost use Rattle.aud_explanation.specs.AlsoText.{also_text};
 
-/// Puts a line for each range of other entries with the same fault at the end.
-pub(crate) fn push_also(
-    alloc: Global,
-    out: &mut String,
-    others: &[Also<'_>],
-) -> Result<(), AllocError>
-    ensures { OnOk result (string_bytes out.new ≡ string_bytes out.old ++ others_text others.now) }
-{
-    for also in others {
-        push_one(alloc, out, also)?;
+    ghost lines_of = { λ page also. also_text also };
+
+    fn push(&self, alloc: Global, out: &mut String, _page: Page<'_>) -> Result<(), AllocError> {
+        let mut line = String::new(alloc);
+        line.push_str(if self.position == self.to {
+            "    also entry "
+        } else {
+            "    also entries "
+        })?;
+        push_span(&mut line, self.position, self.to)?;
+        line.push_str(", ")?;
+        push_lines(&mut line, self.lines)?;
+        push_line(out, line.as_str())
     }
-    Ok(())
 }
 
 /// Puts a line at the end that says how many entries more have the fault, if any do.

@@ -1,9 +1,9 @@
 //! The causes.
 ghost use Rattle.std.specs.Prelude.{◌≡◌, ◌++◌, OnOk, string_bytes};
-ghost use Rattle.aud_explanation.specs.CauseText.{cause_text, causes_text, each_text, has_own, is_sole, lines_words, none_holds, none_text, of_words, stands_words};
+ghost use Rattle.aud_explanation.specs.CauseText.{causes_text, has_own, is_sole, lines_words, none_holds, none_text, of_words, stands_words};
 
 use crate::cause::{Cause, CauseOf, CauseState};
-use crate::long::{first_shown, last_shown, left_out, push_more};
+use crate::text::lines::{Lines, Page, push_long};
 use crate::text::page::push_line;
 use crate::text::span::push_lines;
 use std::alloc::{AllocError, Global};
@@ -41,25 +41,23 @@ fn stands_words(sole: bool, of: CauseOf, state: CauseState) -> &'static str
     }
 }
 
-/// Puts the lines of a cause at the end: what happened, and what to do.
-fn push_cause(
-    alloc: Global,
-    out: &mut String,
-    sole: bool,
-    cause: &Cause<'_>,
-) -> Result<(), AllocError>
-    ensures { OnOk result (string_bytes out.new
-        ≡ string_bytes out.old ++ cause_text sole cause.now) }
-{
-    let (id, why, todo) = (cause.id, cause.why, cause.todo);
-    let stands = stands_words(sole, cause.of, cause.state);
-    let mut line = format!(in alloc; "cause {id} ({stands}")?;
-    push_where(&mut line, cause.lines)?;
-    push_of(&mut line, cause.of)?;
-    write!(&mut line, "): {why}")?;
-    push_line(out, line.as_str())?;
-    let line = format!(in alloc; "do: {todo}")?;
-    push_line(out, line.as_str())
+/// A line for what happened, and one for what to do.
+impl<'r> Lines for Cause<'r> {
+    ghost use Rattle.aud_explanation.specs.CauseText.{cause_text};
+
+    ghost lines_of = { λ page cause. cause_text page.sole cause };
+
+    fn push(&self, alloc: Global, out: &mut String, page: Page<'_>) -> Result<(), AllocError> {
+        let (id, why, todo) = (self.id, self.why, self.todo);
+        let stands = stands_words(page.sole, self.of, self.state);
+        let mut line = format!(in alloc; "cause {id} ({stands}")?;
+        push_where(&mut line, self.lines)?;
+        push_of(&mut line, self.of)?;
+        write!(&mut line, "): {why}")?;
+        push_line(out, line.as_str())?;
+        let line = format!(in alloc; "do: {todo}")?;
+        push_line(out, line.as_str())
+    }
 }
 
 /// Whether one of the causes is of the fault.
@@ -104,27 +102,12 @@ fn push_none(
     out.push_str("no known cause of the fault holds\n")
 }
 
-/// Puts these causes at the end.
-fn push_each(
-    alloc: Global,
-    out: &mut String,
-    sole: bool,
-    causes: &[Cause<'_>],
-) -> Result<(), AllocError>
-    ensures { OnOk result (string_bytes out.new
-        ≡ string_bytes out.old ++ each_text sole causes.now) }
-{
-    for cause in causes {
-        push_cause(alloc, out, sole, cause)?;
-    }
-    Ok(())
-}
-
 /// Puts the causes at the end, of more than 200 the first 100 and the last 100, and before them that none of the fault
 /// holds, where it is so.
 pub(crate) fn push_causes(
     alloc: Global,
     out: &mut String,
+    page: Page<'_>,
     refuted: &[&'static str],
     causes: &[Cause<'_>],
 ) -> Result<(), AllocError>
@@ -133,7 +116,5 @@ pub(crate) fn push_causes(
 {
     push_none(out, refuted, causes)?;
     let sole = is_sole(refuted, causes);
-    push_each(alloc, out, sole, first_shown(causes))?;
-    push_more(out, left_out(causes))?;
-    push_each(alloc, out, sole, last_shown(causes))
+    push_long(alloc, out, Page { sole, ..page }, causes)
 }

@@ -27,7 +27,7 @@ fn push_happens(out: &mut String, happens: Happens) -> Result<(), AllocError>
 }
 
 /// Puts the words at the end, in the next line where this one has no room for two blanks and them; the column after them.
-fn push_piece(out: &mut String, column: usize, words: &str) -> Result<usize, AllocError>
+fn push_words(out: &mut String, column: usize, words: &str) -> Result<usize, AllocError>
     ensures text { OnOk result (string_bytes out.new
         ≡ string_bytes out.old ++ piece column words.now) }
     ensures end { IfOk result (λ end. end ≡ piece_end column words.now) }
@@ -54,11 +54,11 @@ fn push_event(
     let mut words = String::new(alloc);
     push_span(&mut words, event.first, event.last)?;
     push_happens(&mut words, event.happens)?;
-    push_piece(out, column, words.as_str())
+    push_words(out, column, words.as_str())
 }
 
 /// Puts these events at the end, from that column on, and gives the column after them.
-fn push_pieces(
+fn push_all(
     alloc: Global,
     out: &mut String,
     column: usize,
@@ -90,7 +90,7 @@ fn push_left_words(
         return Ok(column);
     }
     let words = format!(in alloc; ".. {left} more ..")?;
-    push_piece(out, column, words.as_str())
+    push_words(out, column, words.as_str())
 }
 
 /// Puts the row of the events at the end; nothing where there is none. Of more than 200 the first 100 and the last 100
@@ -106,8 +106,8 @@ pub(crate) fn push_events(
         return Ok(());
     }
     out.push_str("    client")?;
-    let after_first = push_pieces(alloc, out, 10, first_shown(events))?;
+    let after_first = push_all(alloc, out, 10, first_shown(events))?;
     let column = push_left_words(alloc, out, after_first, left_out(events))?;
-    push_pieces(alloc, out, column, last_shown(events))?;
+    push_all(alloc, out, column, last_shown(events))?;
     out.push_str("\n")
 }

@@ -1,17 +1,30 @@
 //! The recoveries that were refused.
-ghost use Rattle.std.specs.Prelude.{◌≡◌, ◌++◌, OnOk, flat_map, string_bytes};
+ghost use Rattle.std.specs.Prelude.{◌≡◌, ◌++◌, OnOk, string_bytes};
 ghost use Rattle.std.specs.Option.{option_copied};
-ghost use Rattle.aud_explanation.specs.RefusedText.{all_missed_text, all_refused_text, count_words, each_refused_text, head_text, missed_text, refused_text, reply_text, unexplained_text};
+ghost use Rattle.aud_explanation.specs.RefusedText.{all_refused_text, count_words, entries_missed, head_text, reply_text, unexplained_text};
 
-use crate::long::{first_shown, last_shown, left_out, push_more};
-use crate::name::{Names, push_name, push_named};
+use crate::name::{Names, push_named};
 use crate::refused::{Missed, RefusedRecovery};
 use crate::text::evidence::push_row;
+use crate::text::lines::{Lines, Page, push_long};
 use crate::text::page::push_line;
-use aud_input::InputFile;
+use crate::text::piece::Piece::{Name, Number, Words};
+use crate::text::piece::push_line_of;
 use aud_rows::Row;
-use aud_verdict::Verdict;
 use std::alloc::{AllocError, Global};
+
+/// A line: `missed entry 3 3-0`.
+impl<'r> Lines for Missed<'r> {
+    ghost use Rattle.aud_explanation.specs.RefusedText.{missed_text};
+
+    ghost lines_of = { λ page missed. missed_text missed };
+
+    fn push(&self, alloc: Global, out: &mut String, _page: Page<'_>) -> Result<(), AllocError> {
+        let (position, off) = (Number(self.position), Name(self.off));
+        let pieces = [Words("    missed entry "), position, Words(" "), off];
+        push_line_of(alloc, out, &pieces)
+    }
+}
 
 /// Puts how many entries a client missed at the end.
 fn push_count(line: &mut String, missed: Option<&[Missed<'_>]>) -> Result<(), AllocError>
@@ -55,59 +68,27 @@ fn push_head(
 fn push_reply(
     alloc: Global,
     out: &mut String,
-    files: &[InputFile],
-    pid: &str,
-    verdict: &Verdict,
-    width: usize,
+    page: Page<'_>,
     reply: Option<Row<'_>>,
 ) -> Result<(), AllocError>
-    ensures { OnOk result (string_bytes out.new
-        ≡ string_bytes out.old ++ reply_text files.now pid.now verdict.now width reply.entry) }
+    ensures { OnOk result (string_bytes out.new ≡ string_bytes out.old
+        ++ reply_text page.entry.files.now page.entry.pid.now page.entry.verdict.now
+        page.entry.width reply.entry) }
 {
+    let (files, pid, verdict) = (page.files, page.pid, page.verdict);
     match reply {
-        Some(reply) => push_row(alloc, out, files, pid, verdict, width, &reply),
+        Some(reply) => push_row(alloc, out, files, pid, verdict, page.width, &reply),
         None => Ok(()),
     }
 }
 
-/// Puts the line of an entry that was missed at the end.
-fn push_missed(alloc: Global, out: &mut String, missed: &Missed<'_>) -> Result<(), AllocError>
-    ensures { OnOk result (string_bytes out.new ≡ string_bytes out.old ++ missed_text missed.now) }
-{
-    let mut line = String::new(alloc);
-    let position = missed.position;
-    write!(&mut line, "    missed entry {position} ")?;
-    push_name(alloc, &mut line, Names::Short, missed.off)?;
-    push_line(out, line.as_str())
-}
-
-fn push_entries(alloc: Global, out: &mut String, entries: &[Missed<'_>]) -> Result<(), AllocError>
-    ensures { OnOk result (string_bytes out.new
-        ≡ string_bytes out.old ++ flat_map missed_text entries.now) }
-{
-    for missed in entries {
-        push_missed(alloc, out, missed)?;
-    }
-    Ok(())
-}
-
-/// Puts a line for each entry that was missed at the end, where they are known: of more than 200 for the first 100 and
-/// the last 100.
-fn push_all_missed(
-    alloc: Global,
-    out: &mut String,
-    missed: Option<&[Missed<'_>]>,
-) -> Result<(), AllocError>
-    ensures { OnOk result (string_bytes out.new
-        ≡ string_bytes out.old ++ all_missed_text (option_copied missed.entry)) }
+/// The entries that a client missed, where they are known.
+fn entries_missed<'l, 'r>(missed: Option<&'l [Missed<'r>]>) -> &'l [Missed<'r>]
+    ensures { result.now ≡ entries_missed (option_copied missed.entry) }
 {
     match missed {
-        Some(entries) => {
-            push_entries(alloc, out, first_shown(entries))?;
-            push_more(out, left_out(entries))?;
-            push_entries(alloc, out, last_shown(entries))
-        }
-        None => Ok(()),
+        Some(entries) => entries,
+        None => &[],
     }
 }
 
@@ -123,60 +104,34 @@ fn push_unexplained(out: &mut String, has_cause: bool) -> Result<(), AllocError>
     }
 }
 
-/// Puts a refused recovery at the end: what the client got instead, the ask and the reply, what it missed, and whether a
-/// cause is known.
-fn push_one(
-    alloc: Global,
-    out: &mut String,
-    files: &[InputFile],
-    pid: &str,
-    verdict: &Verdict,
-    refused: &RefusedRecovery<'_, '_>,
-) -> Result<(), AllocError>
-    ensures { OnOk result (string_bytes out.new
-        ≡ string_bytes out.old ++ refused_text files.now pid.now verdict.now refused.now) }
-{
-    let width = refused.ask.tap.len();
-    push_head(alloc, out, refused)?;
-    push_row(alloc, out, files, pid, verdict, width, &refused.ask)?;
-    push_reply(alloc, out, files, pid, verdict, width, refused.reply)?;
-    push_all_missed(alloc, out, refused.missed)?;
-    push_unexplained(out, refused.has_cause)
-}
+/// What the client got instead, the ask and the reply, what it missed, and whether a cause is known.
+impl<'l, 'r> Lines for RefusedRecovery<'l, 'r> {
+    ghost use Rattle.aud_explanation.specs.RefusedText.{refused_text};
 
-/// Puts these refused recoveries of the session with this pid at the end.
-fn push_each(
-    alloc: Global,
-    out: &mut String,
-    files: &[InputFile],
-    pid: &str,
-    verdict: &Verdict,
-    recoveries: &[RefusedRecovery<'_, '_>],
-) -> Result<(), AllocError>
-    ensures { OnOk result (string_bytes out.new
-        ≡ string_bytes out.old
-        ++ each_refused_text files.now pid.now verdict.now recoveries.now) }
-{
-    for refused in recoveries {
-        push_one(alloc, out, files, pid, verdict, refused)?;
+    ghost lines_of = { λ page refused. refused_text page.files.now page.pid.now page.verdict.now refused };
+
+    fn push(&self, alloc: Global, out: &mut String, page: Page<'_>) -> Result<(), AllocError> {
+        let width = self.ask.tap.len();
+        let (files, pid, verdict) = (page.files, page.pid, page.verdict);
+        let page = Page { width, ..page };
+        push_head(alloc, out, self)?;
+        push_row(alloc, out, files, pid, verdict, width, &self.ask)?;
+        push_reply(alloc, out, page, self.reply)?;
+        push_long(alloc, out, page, entries_missed(self.missed))?;
+        push_unexplained(out, self.has_cause)
     }
-    Ok(())
 }
 
-/// Puts the refused recoveries of the session with this pid at the end: of more than 200 the first 100 and the last 100.
+/// Puts the refused recoveries of the session at the end: of more than 200 the first 100 and the last 100.
 pub(crate) fn push_refused(
     alloc: Global,
     out: &mut String,
-    files: &[InputFile],
-    pid: &str,
-    verdict: &Verdict,
+    page: Page<'_>,
     recoveries: &[RefusedRecovery<'_, '_>],
 ) -> Result<(), AllocError>
-    ensures { OnOk result (string_bytes out.new
-        ≡ string_bytes out.old
-        ++ all_refused_text files.now pid.now verdict.now recoveries.now) }
+    ensures { OnOk result (string_bytes out.new ≡ string_bytes out.old
+        ++ all_refused_text page.entry.files.now page.entry.pid.now page.entry.verdict.now
+        recoveries.now) }
 {
-    push_each(alloc, out, files, pid, verdict, first_shown(recoveries))?;
-    push_more(out, left_out(recoveries))?;
-    push_each(alloc, out, files, pid, verdict, last_shown(recoveries))
+    push_long(alloc, out, page, recoveries)
 }

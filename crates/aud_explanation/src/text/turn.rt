@@ -1,8 +1,8 @@
 //! The rows of the turns.
 ghost use Rattle.std.specs.Prelude.{◌≡◌, ◌++◌, OnOk, string_bytes};
-ghost use Rattle.aud_explanation.specs.TurnText.{end_words, rows_text, took_words, turns_text};
+ghost use Rattle.aud_explanation.specs.TurnText.{end_words, took_words, turns_text};
 
-use crate::long::{first_shown, last_shown, left_out, push_more};
+use crate::text::lines::{Lines, Page, push_long};
 use crate::text::page::{push_left, push_line};
 use crate::text::span::push_span;
 use crate::turn::{TurnBegin, TurnEnd, TurnShown};
@@ -22,6 +22,27 @@ fn push_took(line: &mut String, took: Option<(u64, u64)>) -> Result<(), AllocErr
     }
 }
 
+/// A row: `turn 0  a  4 open, cursor 0 == take 1-3 == 9 break, cursor 3`.
+impl<'r> Lines for TurnShown<'r> {
+    ghost use Rattle.aud_explanation.specs.TurnText.{turn_text};
+
+    ghost lines_of = { λ page turn. turn_text page.width turn };
+
+    fn push(&self, alloc: Global, out: &mut String, page: Page<'_>) -> Result<(), AllocError> {
+        let (number, at, low) = (self.turn, self.begin_line, self.low);
+        let mut line = format!(in alloc; "    turn {number}  ")?;
+        push_left(&mut line, self.node, page.width)?;
+        let begin = match self.begin {
+            TurnBegin::Open => "open",
+            TurnBegin::Back => "back",
+        };
+        write!(&mut line, "  {at} {begin}, cursor {low} ==")?;
+        push_took(&mut line, self.took)?;
+        push_end(&mut line, self.end)?;
+        push_line(out, line.as_str())
+    }
+}
+
 /// Puts the line on which a turn ends at the end, how it does, and the cursor there.
 fn push_end(line: &mut String, end: TurnEnd) -> Result<(), AllocError>
     ensures { OnOk result (string_bytes line.new ≡ string_bytes line.old ++ end_words end) }
@@ -34,37 +55,12 @@ fn push_end(line: &mut String, end: TurnEnd) -> Result<(), AllocError>
     }
 }
 
-/// Puts the rows of the turns at the end, where the column of nodes has this width.
-fn push_rows(
-    alloc: Global,
-    out: &mut String,
-    width: usize,
-    turns: &[TurnShown<'_>],
-) -> Result<(), AllocError>
-    ensures { OnOk result (string_bytes out.new
-        ≡ string_bytes out.old ++ rows_text width turns.now) }
-{
-    for turn in turns {
-        let (number, at, low) = (turn.turn, turn.begin_line, turn.low);
-        let mut line = format!(in alloc; "    turn {number}  ")?;
-        push_left(&mut line, turn.node, width)?;
-        let begin = match turn.begin {
-            TurnBegin::Open => "open",
-            TurnBegin::Back => "back",
-        };
-        write!(&mut line, "  {at} {begin}, cursor {low} ==")?;
-        push_took(&mut line, turn.took)?;
-        push_end(&mut line, turn.end)?;
-        push_line(out, line.as_str())?;
-    }
-    Ok(())
-}
-
 /// Puts a row for each turn at the end: of more than 200 for the first 100 and the last 100. The column of nodes is as wide
 /// as the longest name.
 pub(crate) fn push_turns(
     alloc: Global,
     out: &mut String,
+    page: Page<'_>,
     turns: &[TurnShown<'_>],
 ) -> Result<(), AllocError>
     ensures { OnOk result (string_bytes out.new ≡ string_bytes out.old ++ turns_text turns.now) }
@@ -73,7 +69,5 @@ pub(crate) fn push_turns(
     for turn in turns {
         width = width.max(turn.node.len());
     }
-    push_rows(alloc, out, width, first_shown(turns))?;
-    push_more(out, left_out(turns))?;
-    push_rows(alloc, out, width, last_shown(turns))
+    push_long(alloc, out, Page { width, ..page }, turns)
 }

@@ -1,6 +1,6 @@
 use Rattle.std.proofs.Common.{string_bytes}
 use Rattle.aud_explanation.proofs.Pieces.{end-more, pieces-more}
-use Rattle.aud_explanation.proofs.text.event.push_pieces.Goals as goal
+use Rattle.aud_explanation.proofs.text.event.push_all.Goals as goal
 
 pub loop-event-preserved : goal.loop-event-preserved
 loop-event-preserved c = (

@@ -1,6 +1,6 @@
 use Rattle.std.proofs.Common.{◌≡◌, ◌++◌, take, map, string_bytes}
 use Rattle.aud_explanation.specs.EventText.{event_words, pieces, pieces_end}
-use Rattle.aud_explanation.proofs.text.event.push_pieces.Given as goal
+use Rattle.aud_explanation.proofs.text.event.push_all.Given as goal
 
 -- the row so far, and the column that it has come to
 abbrev pub invariant-loop-event : goal.invariant-loop-event
