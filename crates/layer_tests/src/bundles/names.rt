@@ -2,7 +2,7 @@
 //! records, the ranks of offsets, and guesses by names and by the ends of texts.
 use aud_base::{Hints, mixed_ending, mixed_name};
 use aud_input::{first_bytes, name_of};
-use aud_reader::{is_client_kind, tap_kind, tap_of_kind};
+use aud_reader::{cut_at_blank, is_client_kind, tap_kind, tap_name, tap_of_kind};
 use aud_tap::{NodeRec, TapKind, Text, is_session_id, is_tap_name, rank};
 use std::test::Fail;
 
@@ -74,6 +74,11 @@ fn names_and_kinds(rt: HostRuntime) {
     }
     for (line, wanted) in &LINES {
         assert!(rt; name_of(line.as_bytes()) == *wanted, "{line}");
+        let name = match cut_at_blank(line.as_bytes()) {
+            Some((front, _)) => tap_name(front),
+            None => None,
+        };
+        assert!(rt; name == *wanted, "{line}");
     }
     assert!(rt; first_bytes(2, b"c1 {}") == b"c1".as_slice());
     assert!(rt; first_bytes(9, b"c1 {}") == b"c1 {}".as_slice());
