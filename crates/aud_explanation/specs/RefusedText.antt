@@ -52,7 +52,3 @@ unexplained_text false = codes "no known cause of the refusal holds\n"
 -- this pid
 abbrev pub refused_text : List InputFile → List ℕ → Verdict → RefusedRecovery → List ℕ
 refused_text files pid verdict r = head_text r ++ row_text files pid verdict (length r.ask.tap.now) r.ask ++ reply_text files pid verdict (length r.ask.tap.now) r.reply ++ long_text missed_text (entries_missed (option_copied r.missed)) ++ unexplained_text r.has_cause
-
--- those that are shown, and a line that says how many are left out
-abbrev pub all_refused_text : List InputFile → List ℕ → Verdict → List RefusedRecovery → List ℕ
-all_refused_text files pid verdict recoveries = long_text (refused_text files pid verdict) recoveries

@@ -26,10 +26,9 @@ use crate::text::cause::push_causes;
 use crate::text::client::push_client;
 use crate::text::event::push_events;
 use crate::text::evidence::push_evidence;
-use crate::text::lines::{Page, push_each};
+use crate::text::lines::{Page, push_each, push_long};
 pub(crate) use crate::text::place::push_place;
 pub(crate) use crate::text::record::{other_session, push_record};
-use crate::text::refused::push_refused;
 use crate::text::turn::push_turns;
 use crate::text::verdict::push_verdict;
 use aud_input::InputFile;
@@ -97,6 +96,6 @@ pub fn push_text(
     push_alike(alloc, out, explanation.alike)?;
     push_turns(alloc, out, page, explanation.turns)?;
     push_events(alloc, out, explanation.events)?;
-    push_refused(alloc, out, page, explanation.refused)?;
+    push_long(alloc, out, page, explanation.refused)?;
     push_causes(alloc, out, page, explanation.refuted, explanation.causes)
 }

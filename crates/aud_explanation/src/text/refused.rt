@@ -1,7 +1,7 @@
 //! The recoveries that were refused.
 ghost use Rattle.std.specs.Prelude.{◌≡◌, ◌++◌, OnOk, string_bytes};
 ghost use Rattle.std.specs.Option.{option_copied};
-ghost use Rattle.aud_explanation.specs.RefusedText.{all_refused_text, count_words, entries_missed, head_text, reply_text, unexplained_text};
+ghost use Rattle.aud_explanation.specs.RefusedText.{count_words, entries_missed, head_text, reply_text, unexplained_text};
 
 use crate::name::{Names, push_named};
 use crate::refused::{Missed, RefusedRecovery};
@@ -120,18 +120,4 @@ impl<'l, 'r> Lines for RefusedRecovery<'l, 'r> {
         push_long(alloc, out, page, entries_missed(self.missed))?;
         push_unexplained(out, self.has_cause)
     }
-}
-
-/// Puts the refused recoveries of the session at the end: of more than 200 the first 100 and the last 100.
-pub(crate) fn push_refused(
-    alloc: Global,
-    out: &mut String,
-    page: Page<'_>,
-    recoveries: &[RefusedRecovery<'_, '_>],
-) -> Result<(), AllocError>
-    ensures { OnOk result (string_bytes out.new ≡ string_bytes out.old
-        ++ all_refused_text page.entry.files.now page.entry.pid.now page.entry.verdict.now
-        recoveries.now) }
-{
-    push_long(alloc, out, page, recoveries)
 }

@@ -4,7 +4,8 @@ use Rattle.std.proofs.lemmas.Result.{on_ok_weaker}
 use Rattle.aud_explanation.specs.AlikeText.{alike_text}
 use Rattle.aud_explanation.specs.CauseText.{causes_text}
 use Rattle.aud_explanation.specs.EventText.{events_text}
-use Rattle.aud_explanation.specs.RefusedText.{all_refused_text}
+use Rattle.aud_explanation.specs.Long.{long_text}
+use Rattle.aud_explanation.specs.RefusedText.{refused_text}
 use Rattle.aud_explanation.specs.Text.{shown_text}
 use Rattle.aud_explanation.specs.TurnText.{turns_text}
 use Rattle.aud_explanation.proofs.text.push_text.Goals as goal
@@ -18,12 +19,12 @@ pub returns : goal.returns
 returns c =
     let files = c.args.files.now in
     let told = c.args.explanation.now in
-    let refused = all_refused_text files told.pid.now told.verdict.now told.refused.now in
+    let refused = long_text (refused_text files told.pid.now told.verdict.now) told.refused.now in
     let causes = causes_text told.refuted.now told.causes.now in
-    on_ok_weaker {P = string_bytes c.push_causes.new.out ≡ string_bytes c.push_refused.new.out ++ causes} c.push_causes.result
+    on_ok_weaker {P = string_bytes c.push_causes.new.out ≡ string_bytes c.push_long.new.out ++ causes} c.push_causes.result
     (λ last.
     six (string_bytes c.args.out.now) (string_bytes c.push_shown.new.out) (string_bytes c.push_alike.new.out) (string_bytes c.push_turns.new.out)
-    (string_bytes c.push_events.new.out) (string_bytes c.push_refused.new.out) (string_bytes c.push_causes.new.out)
+    (string_bytes c.push_events.new.out) (string_bytes c.push_long.new.out) (string_bytes c.push_causes.new.out)
     (shown_text files told) (alike_text told.alike.now) (turns_text told.turns.now) (events_text told.events.now) refused causes
-    c.in_ok-push_shown.ensures c.in_ok-push_alike.ensures c.in_ok-push_turns.ensures c.in_ok-push_events.ensures c.in_ok-push_refused.ensures last)
+    c.in_ok-push_shown.ensures c.in_ok-push_alike.ensures c.in_ok-push_turns.ensures c.in_ok-push_events.ensures c.in_ok-push_long.ensures last)
     c.push_causes.ensures

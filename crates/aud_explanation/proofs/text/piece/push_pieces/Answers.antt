@@ -1,8 +1,8 @@
-use Rattle.std.proofs.Common.{◌≡◌, ◌++◌, ◌∙◌, ℕ, List, [], ◌∷◌, flat_map, fold, string_bytes, refl, sym, ap, append_assoc, append-nil}
+use Rattle.std.proofs.Common.{◌≡◌, ◌++◌, ◌∙◌, ℕ, List, [], ◌∷◌, flat_map, fold, string_bytes, sym, ap, append_assoc, append-nil}
 use Rattle.std.proofs.lemmas.List.{take_all}
 use Rattle.aud_explanation.specs.declared.name.Names.{Names}
 use Rattle.aud_explanation.specs.declared.text.piece.Piece.{Piece}
-use Rattle.aud_explanation.specs.Private.Piece.{piece_text, pieces_text}
+use Rattle.aud_explanation.specs.Private.Piece.{piece_text}
 use Rattle.aud_explanation.proofs.text.piece.push_pieces.Goals as goal
 
 -- behind a text, one after the other
