@@ -39,13 +39,13 @@ impl Load {
         if self.sessions.saturating_add(other.sessions) > MAX_PIDS {
             return Some(Limit::Sessions);
         }
-        let mut nodes: usize = 0;
+        let mut nodes = 0u32;
         for number in 0..self.nodes.len().max(other.nodes.len()) {
             let own = self.nodes.get(number).copied().unwrap_or(0);
             let others = other.nodes.get(number).copied().unwrap_or(0);
-            nodes = nodes.saturating_add((own | others).count_ones() as usize);
+            nodes = nodes.saturating_add((own | others).count_ones());
         }
-        if nodes > MAX_NODE_TAPS {
+        if u64::from(nodes) > MAX_NODE_TAPS as u64 {
             return Some(Limit::Nodes);
         }
         None
