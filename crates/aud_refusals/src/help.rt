@@ -61,32 +61,6 @@ fn push_value_help(
     }
 }
 
-/// Puts help on a refused line at the end.
-fn push_help(
-    alloc: Global,
-    out: &mut String,
-    line: &[u8],
-    code: InputCode,
-    header: Option<u64>,
-) -> Result<(), AllocError>
-    ensures { OnOk result (string_bytes out.new
-        ≡ string_bytes out.old ++ help_text line.now code header) }
-{
-    match code {
-        InputCode::LineTooLong => push_at_most(out, "A line", MAX_LINE, "bytes"),
-        InputCode::NoTapName => push_name_help(out, line),
-        InputCode::NotJson => push_json_help(alloc, out, line),
-        InputCode::NoHeader
-        | InputCode::UnknownKind
-        | InputCode::Field
-        | InputCode::Limit
-        | InputCode::SecondStream
-        | InputCode::OffsetTwice
-        | InputCode::HeaderTwice
-        | InputCode::Version => push_value_help(alloc, out, code, header, line),
-    }
-}
-
 /// What is said of a line, beside its refusal: a sentence or two, each with its newline; or nothing, where the line is
 /// not one that is refused so.
 ///
@@ -110,6 +84,18 @@ pub fn refusal_help(
     ensures { IfOk result (λ help. string_bytes help ≡ help_text line.now code first_header) }
 {
     let mut out = String::new(alloc);
-    push_help(alloc, &mut out, line, code, first_header)?;
+    match code {
+        InputCode::LineTooLong => push_at_most(&mut out, "A line", MAX_LINE, "bytes")?,
+        InputCode::NoTapName => push_name_help(&mut out, line)?,
+        InputCode::NotJson => push_json_help(alloc, &mut out, line)?,
+        InputCode::NoHeader
+        | InputCode::UnknownKind
+        | InputCode::Field
+        | InputCode::Limit
+        | InputCode::SecondStream
+        | InputCode::OffsetTwice
+        | InputCode::HeaderTwice
+        | InputCode::Version => push_value_help(alloc, &mut out, code, first_header, line)?,
+    }
     Ok(out)
 }

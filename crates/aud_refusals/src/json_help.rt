@@ -3,8 +3,8 @@ ghost use Rattle.std.specs.Prelude.{◌≡◌, ◌++◌, ◌+◌, ◌^◌, ◌<�
 ghost use Rattle.aud_refusals.specs.JsonHelp.{bytes_help, first_byte, inside_text, json_help, last_byte, text_help};
 
 use crate::no_json::{no_json, push_no_json};
-use crate::tap_name::cut_at_blank;
 use crate::token_place::is_white;
+use aud_reader::cut_at_blank;
 use std::alloc::{AllocError, Global};
 
 /// The first byte that is no white space.

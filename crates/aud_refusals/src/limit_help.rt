@@ -7,24 +7,11 @@ use crate::excess::{Excess, first_excess};
 use crate::member::text_at;
 use crate::members::members_of;
 use aud_json::Fields;
-use aud_reader::{tap_kind, tap_of_kind};
+use aud_reader::{
+    MAX_CLIENT_TAPS, MAX_ENTRIES, MAX_NODE_TAPS, MAX_PIDS, MAX_RECORDS, tap_kind, tap_of_kind,
+};
 use aud_tap::TapKind;
 use std::alloc::AllocError;
-
-/// The most node taps of a bundle.
-const MAX_NODE_TAPS: usize = 64;
-
-/// The most client taps of a bundle.
-const MAX_CLIENT_TAPS: usize = 4_096;
-
-/// The most entries of a stream.
-const MAX_ENTRIES: usize = 1_000_000;
-
-/// The most records of a node's tap or a client's.
-const MAX_RECORDS: usize = 4_000_000;
-
-/// The most different pids of the records of all nodes.
-const MAX_PIDS: usize = 65_536;
 
 fn push_excess(out: &mut String, excess: Excess) -> Result<(), AllocError>
     ensures { OnOk result (string_bytes out.new ≡ string_bytes out.old ++ excess_text excess) }

@@ -6,8 +6,8 @@ ghost use Rattle.aud_json.specs.View.{view};
 ghost use Rattle.aud_reader.specs.Record.{json_of};
 ghost use Rattle.aud_refusals.specs.Opened.{opened};
 
-use crate::tap_name::{cut_at_blank, is_tap_name};
 use aud_json::{Fields, FieldsFault, Scratch};
+use aud_reader::{cut_at_blank, tap_name};
 use aud_tap::limits::MAX_LINE;
 use std::alloc::{AllocError, Global};
 
@@ -46,7 +46,7 @@ pub fn opened<'a>(
     let Some((name, text)) = cut_at_blank(line) else {
         return Ok(None);
     };
-    if !is_tap_name(name) {
+    if tap_name(name).is_none() {
         return Ok(None);
     }
     fields_of(alloc, scratch, text)

@@ -1,10 +1,9 @@
 //! Help on a line that does not begin with a tap's name and a blank.
 ghost use Rattle.std.specs.Prelude.{◌≡◌, ◌++◌, OnOk, option_map, string_bytes};
-ghost use Rattle.std.specs.List.{list_all};
-ghost use Rattle.aud_tap.specs.TapName.{is_name_byte, is_tap_name};
-ghost use Rattle.aud_reader.specs.Record.{cut_at_blank};
+ghost use Rattle.aud_tap.specs.TapName.{is_name_byte};
 ghost use Rattle.aud_refusals.specs.TapName.{begin_text, blank_text, first_blank, first_strange, known_text, name_help, strange_text};
 
+use aud_reader::cut_at_blank;
 use aud_tap::limits::MAX_NAME;
 use std::alloc::AllocError;
 
@@ -14,42 +13,10 @@ fn is_name_byte(b: u8) -> bool
     matches!(b, b'0'..=b'9' | b'A'..=b'Z' | b'a'..=b'z' | b'_' | b'.' | b'-')
 }
 
-fn first_blank(line: &[u8]) -> Option<usize>
-    ensures { result ≡ first_blank line.now }
-{
-    line.iter().position(|b| *b == b' ')
-}
-
 fn first_strange(name: &[u8]) -> Option<usize>
     ensures { result ≡ first_strange name.now }
 {
     name.iter().position(|b| !is_name_byte(*b))
-}
-
-/// What stands before the first blank, and what stands after it.
-pub fn cut_at_blank(line: &[u8]) -> Option<(&[u8], &[u8])>
-    ensures { option_map (λ cut. (cut.0.now, cut.1.now)) result ≡ cut_at_blank line.now }
-{
-    match first_blank(line) {
-        Some(at) if at < line.len() => Some((&line[..at], &line[at + 1..])),
-        _ => None,
-    }
-}
-
-fn are_name_bytes(name: &[u8]) -> bool
-    ensures { result ≡ list_all is_name_byte name.now }
-{
-    name.iter().all(|b| is_name_byte(*b))
-}
-
-/// Whether these bytes are a tap's name.
-pub fn is_tap_name(name: &[u8]) -> bool
-    ensures { result ≡ is_tap_name name.now }
-{
-    if name.is_empty() || name.len() > MAX_NAME {
-        return false;
-    }
-    are_name_bytes(name)
 }
 
 fn push_strange(out: &mut String, name: &[u8]) -> Result<(), AllocError>
