@@ -1,7 +1,7 @@
 //! How many sessions are answered yes, and how many no client named.
 ghost use Rattle.std.specs.Prelude.{◌≡◌, count_by};
 ghost use Rattle.aud_verdict.specs.YesOf.{is_yes};
-ghost use Rattle.aud_explain_app.specs.Summary.Answers.{is_unnamed, is_unobserved};
+ghost use Rattle.aud_explain_app.specs.Summary.Answers.{is_unobserved};
 
 use aud_client::Recording;
 use aud_verdict::SessionVerdict;
@@ -19,16 +19,9 @@ pub(crate) fn count_unobserved(recording: &Recording<'_>, verdicts: &[SessionVer
 {
     let mut count = 0;
     for verdict in verdicts {
-        if is_unnamed(recording, verdict.pid.as_str()) {
+        if recording.naming(verdict.pid.as_str()).is_empty() {
             count += 1;
         }
     }
     count
-}
-
-/// Whether no client's reply names the session.
-fn is_unnamed(recording: &Recording<'_>, pid: &str) -> bool
-    ensures { result ≡ is_unnamed recording.now pid.now }
-{
-    recording.naming(pid).is_empty()
 }
