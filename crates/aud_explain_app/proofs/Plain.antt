@@ -1,5 +1,6 @@
 -- Neither a summary's JSON nor a refused line's has a float.
 use Rattle.std.proofs.Common.{◌≡◌, ℕ, Bool, true, false, ◌||◌, List, [], ◌∷◌, Option, Some, None, fold, refl, slice_get}
+use Rattle.std.specs.Borrow.{Bor}
 use Rattle.std.specs.Ordering.{nat_cmp, match_ordering}
 use Rattle.std.specs.Cmp.Lexicographic.{slice_cmp}
 use Rattle.std.specs.declared.cmp.Ordering.TheVariants.{Less, Equal, Greater}
@@ -12,7 +13,7 @@ use Rattle.aud_explanation.specs.JsonValue.{text_or_null}
 use Rattle.aud_explain_app.specs.declared.summary.causes.CausesTold.{CausesTold}
 use Rattle.aud_explain_app.specs.declared.summary.Summary.{Summary}
 use Rattle.aud_explain_app.specs.Summary.Causes.{cause_names, count_with}
-use Rattle.aud_explain_app.specs.Summary.Json.{summary_data, with_cause}
+use Rattle.aud_explain_app.specs.Summary.Json.{summary_data, with_cause, with_figures}
 use Rattle.aud_explain_app.specs.RefusedLine.{header_data, json_data}
 
 -- neither holds where one of both does not
@@ -35,10 +36,15 @@ number-put k n (member l e ms) rest =
 -- more causes
 causes-put : (told : List CausesTold) (names : List Text) (ms : Members) → members_have_float ms ≡ false → members_have_float (fold (with_cause told) ms names) ≡ false
 causes-put told [] ms rest = rest
-causes-put told (name ∷ names) ms rest = causes-put told names (put name (number (unsigned (count_with told name))) ms) (number-put name (count_with told name) ms rest)
+causes-put told (name ∷ names) ms rest = causes-put told names (put name (number (unsigned (count_with told (Some name)))) ms) (number-put name (count_with told (Some name)) ms rest)
+
+-- more figures
+figures-put : (figures : List (Bor Text × ℕ)) (ms : Members) → members_have_float ms ≡ false → members_have_float (with_figures figures ms) ≡ false
+figures-put [] ms rest = rest
+figures-put (f ∷ figures) ms rest = figures-put figures (put f.0.now (number (unsigned f.1)) ms) (number-put f.0.now f.1 ms rest)
 
 pub summary-plain : (s : Summary) (told : List CausesTold) → has_float (summary_data s told) ≡ false
-summary-plain s told = rw (causes-put told cause_names no_members refl) refl
+summary-plain s told = rw (causes-put told cause_names no_members refl, figures-put s.faults no_members refl) refl
 
 text-plain : (text : Option Text) → has_float (text_or_null text) ≡ false
 text-plain None = refl

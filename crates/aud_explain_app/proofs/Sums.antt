@@ -11,9 +11,7 @@ use Rattle.aud_verdict.specs.declared.verdict.Verdict.{Verdict}
 use Rattle.aud_verdict.specs.declared.verdict.Verdict.TheVariants.{Yes, No}
 use Rattle.aud_verdict.specs.declared.verdict.SessionVerdict.{SessionVerdict}
 use Rattle.aud_verdict.specs.YesOf.{yes_of, is_yes}
-use Rattle.aud_explain_app.specs.Summary.Answers.{is_no}
-use Rattle.aud_explain_app.specs.Summary.ByClass.{same_class, no_in, is_no_in, classes_of, sum_of_classes}
-use Rattle.aud_explain_app.specs.Summary.ByFault.{no_for, is_no_for, faults_of, sum_of_faults}
+use Rattle.aud_explain_app.specs.Summary.Counts.{classes_of, faults_of, is_no, is_no_for, is_no_in, no_for, no_in, same_class, sum_of_classes, sum_of_faults}
 
 -- one where the test holds
 abbrev holds : Bool → ℕ

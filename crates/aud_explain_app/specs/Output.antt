@@ -29,12 +29,8 @@ use Rattle.aud_explain_app.specs.declared.output.Told.{Told}
 use Rattle.aud_verdict.specs.YesOf.{is_yes}
 use Rattle.aud_explain_app.specs.declared.summary.causes.CausesTold.{CausesTold}
 use Rattle.aud_explain_app.specs.declared.summary.Summary.{Summary}
-use Rattle.aud_explain_app.specs.Summary.Answers.{is_no, is_unobserved}
-use Rattle.aud_explain_app.specs.Summary.ByClass.{classes_of}
-use Rattle.aud_explain_app.specs.Summary.ByFault.{faults_of}
+use Rattle.aud_explain_app.specs.Summary.Counts.{classes_of, faults_of, faults_seen, has_tail, is_no, is_unobserved, says_nothing, tail_of}
 use Rattle.aud_explain_app.specs.Summary.Json.{summary_json}
-use Rattle.aud_explain_app.specs.Summary.Meaning.{says_nothing}
-use Rattle.aud_explain_app.specs.Summary.Tails.{has_tail, tail_of}
 use Rattle.aud_explain_app.specs.Summary.Text.{summary_text}
 use Rattle.aud_verdict.specs.Verdicts.{AreVerdicts}
 use Rattle.aud_explain_app.specs.RefusedLine.{refused_output}
@@ -71,7 +67,7 @@ pub record IsSummary (c : Cluster) (verdicts : List SessionVerdict) (recoveries 
   pub no : s.no ≡ count_by is_no verdicts
   pub unobserved : s.unobserved ≡ count_by (is_unobserved c) verdicts
   pub classes : s.classes ≡ classes_of verdicts
-  pub faults : s.faults ≡ faults_of verdicts
+  pub faults : faults_seen s.faults ≡ faults_of verdicts
   pub tails : s.tails.sessions ≡ count_by has_tail verdicts
   pub tail_events : s.tails.events ≡ min (sum_by tail_of verdicts) (2 ^ 64 - 1)
   pub asked : s.recoveries.asked ≡ length recoveries

@@ -5,7 +5,7 @@ ghost use Rattle.aud_base.specs.Places.{places_of};
 ghost use Rattle.aud_node.specs.Cluster.{Cluster};
 ghost use Rattle.aud_node.specs.Stream.{Text};
 ghost use Rattle.aud_findings.specs.Prepared.{IsPreparedOf};
-ghost use Rattle.aud_explain_app.specs.Alike.{alone, numbers_at, pids_at, records_of, shared_records, tap_name, taps_of, telling_of, tellings, told_by, told_first, told_once};
+ghost use Rattle.aud_explain_app.specs.Alike.{alone, numbers_at, pids_at, records_of, shared_records, tap_name, taps_of, telling_of, tellings, told_by, told_once};
 ghost use Rattle.aud_explain_app.specs.Asked.{AreAsked};
 
 use crate::asked::Asked;
@@ -119,7 +119,7 @@ fn by_record(
 }
 
 /// Adds what is told of the session with this number, with these records, by the numbers of those that share
-/// them.
+/// them: the first of these names the others.
 fn push_told<'s>(
     told: &mut Vec<Told<'s>>,
     alloc: Global,
@@ -138,30 +138,14 @@ fn push_told<'s>(
         (option_copied at.entry)) }
 {
     match at {
-        Some(at) => push_first(told, alloc, sessions, number, session, index.of(at)),
+        Some(at) => match index.of(at) {
+            [first, others @ ..] if *first == number => {
+                let alike = pids_at(alloc, sessions, others)?;
+                Ok(told.push(Told { session, alike })?)
+            }
+            _ => Ok(()),
+        },
         None => Ok(told.push(alone(alloc, session))?),
-    }
-}
-
-/// Adds the session with this number, and the others with these, if it is the first of them.
-fn push_first<'s>(
-    told: &mut Vec<Told<'s>>,
-    alloc: Global,
-    sessions: &[&'s SessionVerdict],
-    number: usize,
-    session: &'s SessionVerdict,
-    numbers: &[usize],
-) -> Result<(), AllocError>
-    ensures { OnOk result (map telling_of told.new.items
-        ≡ map telling_of told.old.items
-        ++ told_first (map (λ s. s.now) sessions.now) number session.now numbers.now) }
-{
-    match numbers {
-        [first, others @ ..] if *first == number => {
-            let alike = pids_at(alloc, sessions, others)?;
-            Ok(told.push(Told { session, alike })?)
-        }
-        _ => Ok(()),
     }
 }
 

@@ -1,7 +1,7 @@
 //! What the explanation of a session tells of causes.
 ghost use Rattle.std.specs.Prelude.{◌≡◌, ◌++◌, IfOk, OnOk, map};
 ghost use Rattle.aud_explain_app.specs.Summary.Causes.{name_of};
-ghost use Rattle.aud_explain_app.specs.CausesTold.{AreCausesTold, is_unknown, names_of};
+ghost use Rattle.aud_explain_app.specs.CausesTold.{AreCausesTold, names_of};
 
 use crate::explained::Explained;
 use crate::summary::causes::CausesTold;
@@ -19,7 +19,8 @@ pub(crate) fn causes_told(
 ) -> Result<CausesTold, AllocError>
     ensures { IfOk result (AreCausesTold verdict.now others explained.now) }
 {
-    let is_unknown = is_unknown(alloc, verdict, &explained.causes)?;
+    let unknown = refuted(alloc, verdict, &explained.causes)?;
+    let is_unknown = explained.causes.is_empty() && !unknown.is_empty();
     let mut ids: Vec<&'static str> = Vec::new(alloc);
     push_names(&mut ids, &explained.causes)?;
     for told in &explained.refused {
@@ -30,17 +31,6 @@ pub(crate) fn causes_told(
         is_unknown,
         others,
     })
-}
-
-/// Whether causes of the fault are known, and none of them is told.
-fn is_unknown(alloc: Global, verdict: &Verdict, causes: &[CauseFound]) -> Result<bool, AllocError>
-    ensures { IfOk result (λ unknown. unknown ≡ is_unknown verdict.now causes.now) }
-{
-    if !causes.is_empty() {
-        return Ok(false);
-    }
-    let ids = refuted(alloc, verdict, causes)?;
-    Ok(!ids.is_empty())
 }
 
 /// Adds the names of these causes.

@@ -4,7 +4,7 @@ ghost use Rattle.std.specs.Option.{option_copied};
 ghost use Rattle.aud_client.specs.Replies.{naming_places};
 ghost use Rattle.aud_findings.specs.ClientShown.{only_of};
 ghost use Rattle.aud_rows.specs.ClientPlaces.{AreOf};
-ghost use Rattle.aud_explain_app.specs.Events.{AreEvents, is_named, place_of, stays_unnamed};
+ghost use Rattle.aud_explain_app.specs.Events.{AreEvents, place_of, stays_unnamed};
 
 use aud_client::Recording;
 use aud_explanation::ClientEvent;
@@ -57,19 +57,13 @@ fn push_unnamed(
         ≡ numbers.old.items ++ stays_unnamed recording.now place pid.now asked.now) }
 {
     for recovery in asked {
-        if recovery.client == place && !is_named(recording, pid, recovery) {
+        let named = match stay_of(recording, recovery) {
+            Some(stay) => stay.names(pid),
+            None => false,
+        };
+        if recovery.client == place && !named {
             numbers.push(recovery.stay)?;
         }
     }
     Ok(())
-}
-
-/// Whether the reply to what was asked for names the session.
-fn is_named(recording: &Recording<'_>, pid: &str, recovery: &Recovery) -> bool
-    ensures { result ≡ is_named recording.now pid.now recovery.now }
-{
-    match stay_of(recording, recovery) {
-        Some(stay) => stay.names(pid),
-        None => false,
-    }
 }

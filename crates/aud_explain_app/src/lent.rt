@@ -2,13 +2,12 @@
 ghost use Rattle.std.specs.Prelude.{◌≡◌, ◌++◌, IfOk, map};
 ghost use Rattle.aud_explanation.specs.declared.cause.CauseOf.TheVariants.{Fault};
 ghost use Rattle.aud_findings.specs.Also.{also_seen};
-ghost use Rattle.std.specs.Option.{option_copied, option_map};
-ghost use Rattle.aud_findings.specs.Refused.{missed_seen};
+ghost use Rattle.std.specs.Option.{option_copied};
 ghost use Rattle.aud_explain_app.specs.Lent.{also_told, ask_line, cause_of, cause_told, causes_of_refusal, causes_of_refusals, recoveries_shown, recovery_told};
 
 use crate::refused_told::RefusedTold;
 use aud_causes::CauseFound;
-use aud_explanation::{Also, Cause, CauseOf, Missed, RefusedRecovery};
+use aud_explanation::{Also, Cause, CauseOf, RefusedRecovery};
 use aud_findings::{AlsoShown, RefusedShown};
 use std::alloc::{AllocError, Global};
 
@@ -44,23 +43,13 @@ pub(crate) fn refused_lent<'l, 'r>(
                 ask: shown.ask,
                 reply: shown.reply,
                 instead: shown.instead,
-                missed: missed_lent(shown),
+                missed: shown.missed.as_deref(),
                 has_cause: !told.causes.is_empty(),
                 refuted: told.refuted.as_slice(),
             })?;
         }
     }
     Ok(lent)
-}
-
-fn missed_lent<'l, 'r>(shown: &'l RefusedShown<'r>) -> Option<&'l [Missed<'r>]>
-    ensures { option_map (λ missed. map missed_seen missed.now) result
-        ≡ option_map (λ missed. map missed_seen missed.items) shown.now.missed }
-{
-    match &shown.missed {
-        Some(missed) => Some(missed.as_slice()),
-        None => None,
-    }
 }
 
 /// The causes of the fault, and after them those of the refusals.

@@ -1,9 +1,9 @@
 //! What is written where a line is refused.
-ghost use Rattle.std.specs.Prelude.{◌≡◌, ◌++◌, IfOk, OnOk, Some, slice_get, string_bytes};
+ghost use Rattle.std.specs.Prelude.{◌≡◌, ◌++◌, IfOk, OnOk, slice_get, string_bytes};
 ghost use Rattle.std.specs.Option.{option_map};
 ghost use Rattle.serde_json.specs.View.{view};
 ghost use Rattle.aud_explanation.specs.JsonValue.{text_or_null};
-ghost use Rattle.aud_explain_app.specs.RefusedLine.{file_told, header_data, header_line, json_data, json_line, named_line, place_line, refused_data, refused_output};
+ghost use Rattle.aud_explain_app.specs.RefusedLine.{file_told, header_data, header_line, json_data, json_line, place_line, refused_data, refused_output};
 
 use crate::written::Form;
 use aud_explanation::push_printed;
@@ -62,20 +62,16 @@ fn push_place(out: &mut String, names: &[Text], at: FileLine) -> Result<(), Allo
     ensures { OnOk result (string_bytes out.new
         ≡ string_bytes out.old ++ place_line names.now at) }
 {
+    let number = at.line;
     match file_told(names, at) {
-        Some(name) => push_named(out, name, at.line),
+        Some(name) => {
+            write!(out, "That is line {number} of ")?;
+            push_printed(out, name)?;
+            out.push_str(".\n")?;
+            Ok(())
+        }
         None => Ok(()),
     }
-}
-
-fn push_named(out: &mut String, name: &str, number: u64) -> Result<(), AllocError>
-    ensures { OnOk result (string_bytes out.new
-        ≡ string_bytes out.old ++ named_line (Some name.now) number) }
-{
-    write!(out, "That is line {number} of ")?;
-    push_printed(out, name)?;
-    out.push_str(".\n")?;
-    Ok(())
 }
 
 /// The name of the file; none where none is named.

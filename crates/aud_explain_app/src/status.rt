@@ -1,6 +1,6 @@
 //! How a run of `explain` ends.
 ghost use Rattle.std.specs.Prelude.{◌≡◌};
-ghost use Rattle.aud_explain_app.specs.Status.{fails, status_by};
+ghost use Rattle.aud_explain_app.specs.Status.{status_by};
 
 use aud_cli::FailOn;
 use aud_session_facts::{Recovery, refused};
@@ -23,19 +23,11 @@ pub(crate) fn status_by(
         return status_of(false);
     }
     for session in verdicts {
-        if fails(fail_on, &session.verdict) {
-            return status_of(false);
+        if let Verdict::No(fault) = &session.verdict {
+            if fail_on.fails(fault) {
+                return status_of(false);
+            }
         }
     }
     status_of(true)
-}
-
-/// Whether a session with this verdict makes status 1.
-fn fails(fail_on: FailOn, verdict: &Verdict) -> bool
-    ensures { result ≡ fails fail_on verdict.now }
-{
-    match verdict {
-        Verdict::Yes { .. } => false,
-        Verdict::No(fault) => fail_on.fails(fault),
-    }
 }

@@ -1,11 +1,7 @@
 //! The figures of a recording: how its sessions were answered, and what was in it.
-pub mod answers;
 pub mod causes;
-pub mod classes;
-pub mod entries;
-pub mod faults;
+pub mod counts;
 pub mod json;
-pub mod tails;
 pub mod text;
 
 ghost use Rattle.std.specs.Prelude.{◌≡◌, ◌+◌, count_by, length, min, sum_by};
@@ -13,17 +9,12 @@ ghost use Rattle.std.specs.List.{filter};
 ghost use Rattle.aud_node.specs.Recoverable.{is_recoverable};
 ghost use Rattle.aud_session_facts.specs.Recoveries.{is_granted, is_refused};
 ghost use Rattle.aud_verdict.specs.YesOf.{is_yes};
-ghost use Rattle.aud_explain_app.specs.Summary.Answers.{is_no, is_unobserved};
-ghost use Rattle.aud_explain_app.specs.Summary.ByClass.{classes_of, sum_of_classes};
-ghost use Rattle.aud_explain_app.specs.Summary.ByFault.{faults_of, sum_of_faults};
-ghost use Rattle.aud_explain_app.specs.Summary.Meaning.{says_nothing};
-ghost use Rattle.aud_explain_app.specs.Summary.Tails.{has_tail, tail_of};
+ghost use Rattle.aud_explain_app.specs.Summary.Counts.{classes_of, faults_of, faults_seen, has_tail, is_no, is_unobserved, says_nothing, sum_of_classes, sum_of_faults, tail_of};
 
-use crate::summary::answers::{count_unobserved, count_yes};
-use crate::summary::classes::{Classes, classes_in};
-use crate::summary::entries::{Entries, entries_in};
-use crate::summary::faults::{Faults, faults_in};
-use crate::summary::tails::{Tails, tails_in};
+use crate::summary::counts::{
+    Classes, Entries, Faults, Tails, classes_in, count_unobserved, count_yes, entries_in,
+    faults_in, tails_in,
+};
 use aud_client::Recording;
 use aud_session_facts::{Recovery, granted, refused};
 use aud_verdict::SessionVerdict;
@@ -76,7 +67,7 @@ pub fn summary_of(
     ensures unobserved { result.unobserved ≡ count_by (is_unobserved recording.now) verdicts.now }
 
     ensures classes { result.classes ≡ classes_of verdicts.now }
-    ensures faults { result.faults ≡ faults_of verdicts.now }
+    ensures faults { faults_seen result.faults ≡ faults_of verdicts.now }
 
     ensures tails { result.tails.sessions ≡ count_by has_tail verdicts.now }
     ensures tail_events { result.tails.events ≡ min (sum_by tail_of verdicts.now) u64.MAX }
@@ -92,7 +83,7 @@ pub fn summary_of(
 
     ensures answered { result.yes + result.no ≡ result.sessions }
     ensures by_class { sum_of_classes result.classes ≡ result.no }
-    ensures by_fault { sum_of_faults result.faults ≡ result.no }
+    ensures by_fault { sum_of_faults (faults_seen result.faults) ≡ result.no }
     ensures all_recoveries { result.recoveries.granted + result.recoveries.refused
         ≡ result.recoveries.asked }
 {

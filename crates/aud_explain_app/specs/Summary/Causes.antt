@@ -1,5 +1,5 @@
 -- The causes that explanations told, counted by sessions.
-use Rattle.std.specs.Prelude.{◌^◌, ◌-◌, ℕ, suc, Bool, true, false, List, [], ◌∷◌, codes, min, sum_by}
+use Rattle.std.specs.Prelude.{◌^◌, ◌-◌, ℕ, suc, Bool, true, false, List, [], ◌∷◌, codes, min, sum_by, Option, Some, None}
 use Rattle.std.specs.Borrow.{Bor}
 use Rattle.std.specs.List.{list_any}
 use Rattle.std.specs.Str.{bytes_eq}
@@ -37,18 +37,15 @@ abbrev pub sessions_if : Bool → CausesTold → ℕ
 sessions_if true told = suc told.others
 sessions_if false told = 0
 
--- the sessions that have the cause, by one explanation
-abbrev pub sessions_with : Text → CausesTold → ℕ
-sessions_with id told = sessions_if (tells id told) told
+-- the explanation told the cause of this name, or, where no name is given, that no known cause of the fault holds
+abbrev pub has_told : Option Text → CausesTold → Bool
+has_told (Some id) told = tells id told
+has_told None told = told.is_unknown
 
--- how many sessions have it
-abbrev pub count_with : List CausesTold → Text → ℕ
-count_with told id = min (sum_by (sessions_with id) told) (2 ^ 64 - 1)
-
--- the sessions of whose fault no known cause holds, by one explanation
-abbrev pub sessions_unknown : CausesTold → ℕ
-sessions_unknown told = sessions_if told.is_unknown told
+-- the sessions of which it did
+abbrev pub sessions_with : Option Text → CausesTold → ℕ
+sessions_with id told = sessions_if (has_told id told) told
 
 -- how many these are
-abbrev pub count_unknown : List CausesTold → ℕ
-count_unknown told = min (sum_by sessions_unknown told) (2 ^ 64 - 1)
+abbrev pub count_with : List CausesTold → Option Text → ℕ
+count_with told id = min (sum_by (sessions_with id) told) (2 ^ 64 - 1)

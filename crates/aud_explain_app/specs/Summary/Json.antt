@@ -1,17 +1,16 @@
 -- The JSON of a summary: members in the byte order of their names.
-use Rattle.std.specs.Prelude.{ℕ, List, codes, fold}
+use Rattle.std.specs.Prelude.{ℕ, List, codes, fold, Some, None}
 use Rattle.serde_json.specs.Data.{Data, Members, number, object, unsigned, no_members, member, put}
 use Rattle.serde_json.specs.Written.{compact_text}
 use Rattle.std.specs.Borrow.{Bor}
 use Rattle.aud_node.specs.Stream.{Text}
 use Rattle.aud_explain_app.specs.declared.summary.causes.CausesTold.{CausesTold}
-use Rattle.aud_explain_app.specs.declared.summary.classes.Classes.{Classes}
-use Rattle.aud_explain_app.specs.declared.summary.entries.Entries.{Entries}
-use Rattle.aud_explain_app.specs.declared.summary.faults.Faults.{Faults}
+use Rattle.aud_explain_app.specs.declared.summary.counts.Classes.{Classes}
+use Rattle.aud_explain_app.specs.declared.summary.counts.Entries.{Entries}
 use Rattle.aud_explain_app.specs.declared.summary.Recoveries.{Recoveries}
 use Rattle.aud_explain_app.specs.declared.summary.Summary.{Summary}
-use Rattle.aud_explain_app.specs.declared.summary.tails.Tails.{Tails}
-use Rattle.aud_explain_app.specs.Summary.Causes.{cause_names, count_unknown, count_with}
+use Rattle.aud_explain_app.specs.declared.summary.counts.Tails.{Tails}
+use Rattle.aud_explain_app.specs.Summary.Causes.{cause_names, count_with}
 
 -- a member that is a whole number, in front of others
 abbrev pub figure : List ℕ → ℕ → Members → Members
@@ -23,7 +22,7 @@ with_figures figures others = fold (λ ms (f : Bor Text × ℕ). put f.0.now (nu
 
 -- a cause among others, with how many sessions have it
 abbrev pub with_cause : List CausesTold → Members → Text → Members
-with_cause told others id = put id (number (unsigned (count_with told id))) others
+with_cause told others id = put id (number (unsigned (count_with told (Some id)))) others
 
 -- all causes, also those that no session has
 abbrev pub causes_data : List CausesTold → Data
@@ -36,22 +35,8 @@ abbrev pub entries_data : Entries → Data
 entries_data e = object (figure (codes "all") e.all (figure (codes "recoverable") e.recoverable no_members))
 
 -- all faults, also those that no session has
-abbrev pub faults_data : Faults → Data
-faults_data f =
-    object (figure (codes "CHAIN") f.chain
-    (figure (codes "CLIENT") f.client
-    (figure (codes "CONTENT") f.content
-    (figure (codes "DOUBLED") f.doubled
-    (figure (codes "EXTRA") f.extra
-    (figure (codes "FRAME") f.frame
-    (figure (codes "LOST") f.lost
-    (figure (codes "NAMES") f.names
-    (figure (codes "NOLOG") f.no_log
-    (figure (codes "ORDER") f.order
-    (figure (codes "ORPHAN") f.orphan
-    (figure (codes "SWAPPED") f.swapped
-    (figure (codes "TAIL") f.tail
-    (figure (codes "WINDOW") f.window no_members))))))))))))))
+abbrev pub faults_data : List (Bor Text × ℕ) → Data
+faults_data faults = object (with_figures faults no_members)
 
 abbrev pub recoveries_data : Recoveries → Data
 recoveries_data r = object (figure (codes "asked") r.asked (figure (codes "granted") r.granted (figure (codes "refused") r.refused no_members)))
@@ -69,7 +54,7 @@ figures_data s told =
     (member (codes "fault") (faults_data s.faults)
     (figure (codes "lines") s.input.lines
     (figure (codes "no") s.no
-    (figure (codes "no_known_cause") (count_unknown told)
+    (figure (codes "no_known_cause") (count_with told None)
     (member (codes "recoveries") (recoveries_data s.recoveries)
     (figure (codes "seconds") s.input.seconds
     (figure (codes "sessions") s.sessions

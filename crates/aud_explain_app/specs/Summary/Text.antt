@@ -1,12 +1,12 @@
 -- The text of a summary: a line for each group of figures.
-use Rattle.std.specs.Prelude.{ℕ, zero, suc, List, [], ◌∷◌, ◌++◌, codes, decimal, flat_map, map}
+use Rattle.std.specs.Prelude.{ℕ, zero, suc, List, [], ◌∷◌, ◌++◌, codes, decimal, drop, flat_map, map, take, Some, None}
 use Rattle.std.specs.Borrow.{Bor}
 use Rattle.aud_node.specs.Stream.{Text}
 use Rattle.aud_explain_app.specs.declared.summary.causes.CausesTold.{CausesTold}
-use Rattle.aud_explain_app.specs.declared.summary.classes.Classes.{Classes}
-use Rattle.aud_explain_app.specs.declared.summary.faults.Faults.{Faults}
+use Rattle.aud_explain_app.specs.declared.summary.counts.Classes.{Classes}
 use Rattle.aud_explain_app.specs.declared.summary.Summary.{Summary}
-use Rattle.aud_explain_app.specs.Summary.Causes.{cause_names, count_unknown, count_with}
+use Rattle.aud_explain_app.specs.Summary.Counts.{faults_seen}
+use Rattle.aud_explain_app.specs.Summary.Causes.{cause_names, count_with}
 
 -- how the sessions were answered
 abbrev pub answers_line : Summary → List ℕ
@@ -26,28 +26,13 @@ abbrev pub class_line : List ℕ → ℕ → List (Text × ℕ) → List ℕ
 class_line name zero faults = []
 class_line name (suc more) faults = codes "  " ++ name ++ codes " " ++ decimal (suc more) ++ codes ":" ++ fault_items faults ++ codes "\n"
 
--- faults whose words are borrowed
-abbrev pub faults_seen : List (Bor Text × ℕ) → List (Text × ℕ)
-faults_seen faults = map (λ (f : Bor Text × ℕ). (f.0.now, f.1)) faults
-
--- the faults of each class, in the order in which they are looked for
-abbrev pub recording_faults : Faults → List (Text × ℕ)
-recording_faults f = (codes "NOLOG", f.no_log) ∷ (codes "CHAIN", f.chain) ∷ (codes "ORDER", f.order) ∷ (codes "CLIENT", f.client) ∷ (codes "NAMES", f.names) ∷ []
-
-abbrev pub packets_faults : Faults → List (Text × ℕ)
-packets_faults f = (codes "FRAME", f.frame) ∷ (codes "ORPHAN", f.orphan) ∷ []
-
-abbrev pub delivery_faults : Faults → List (Text × ℕ)
-delivery_faults f =
-    (codes "CONTENT", f.content) ∷ (codes "EXTRA", f.extra) ∷ (codes "DOUBLED", f.doubled) ∷ (codes "SWAPPED", f.swapped)
-    ∷ (codes "LOST", f.lost) ∷ (codes "WINDOW", f.window) ∷ (codes "TAIL", f.tail) ∷ []
-
--- the classes that have a no
-abbrev pub classes_lines : Classes → Faults → List ℕ
-classes_lines c f =
-    class_line (codes "recording") c.recording (recording_faults f)
-    ++ class_line (codes "packets") c.packets (packets_faults f)
-    ++ class_line (codes "delivery") c.delivery (delivery_faults f)
+-- the classes that have a no: of the faults, in the order in which they are looked for, five are of the recording, two of
+-- packets, and the others of delivery
+abbrev pub classes_lines : Classes → List (Bor Text × ℕ) → List ℕ
+classes_lines c faults =
+    class_line (codes "recording") c.recording (faults_seen (take 5 faults))
+    ++ class_line (codes "packets") c.packets (faults_seen (take 2 (drop 5 faults)))
+    ++ class_line (codes "delivery") c.delivery (faults_seen (drop 2 (drop 5 faults)))
 
 -- how many sessions have such a cause; nothing where none has
 abbrev pub count_line : List ℕ → List ℕ → ℕ → List ℕ
@@ -56,11 +41,11 @@ count_line kind cause (suc more) = codes "  " ++ kind ++ codes " " ++ cause ++ c
 
 -- how many have this one
 abbrev pub cause_line : List CausesTold → Text → List ℕ
-cause_line told id = count_line (codes "cause") id (count_with told id)
+cause_line told id = count_line (codes "cause") id (count_with told (Some id))
 
 -- the causes that were told, and how many sessions have a fault of which no known cause holds
 abbrev pub causes_lines : List CausesTold → List ℕ
-causes_lines told = flat_map (cause_line told) cause_names ++ count_line (codes "no known") (codes "cause") (count_unknown told)
+causes_lines told = flat_map (cause_line told) cause_names ++ count_line (codes "no known") (codes "cause") (count_with told None)
 
 -- numbers, each behind its words
 abbrev pub numbers_text : List (Text × ℕ) → List ℕ

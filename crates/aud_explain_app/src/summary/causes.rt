@@ -1,6 +1,7 @@
 //! How many sessions have each cause.
 ghost use Rattle.std.specs.Prelude.{◌≡◌, ◌+◌, map, min};
-ghost use Rattle.aud_explain_app.specs.Summary.Causes.{cause_names, count_unknown, count_with, name_of, sessions_if, tells};
+ghost use Rattle.std.specs.Option.{option_copied};
+ghost use Rattle.aud_explain_app.specs.Summary.Causes.{cause_names, count_with, name_of, sessions_if, tells};
 
 /// What the explanation of a session told of causes.
 #[derive(Debug, Drop)]
@@ -82,24 +83,18 @@ pub fn cause_names() -> &'static [&'static str]
     &NAMES
 }
 
-/// How many sessions have the cause of this name, each counted once; the greatest number of 64 bits where there are more.
-pub(crate) fn count_with(told: &[CausesTold], id: &str) -> u64
-    ensures { result ≡ count_with told.now id.now }
+/// How many sessions have the cause of this name, or, where no name is given, a fault of which no known cause holds; each
+/// counts once. The greatest number of 64 bits where there are more.
+pub(crate) fn count_with(told: &[CausesTold], id: Option<&str>) -> u64
+    ensures { result ≡ count_with told.now (option_copied id.entry) }
 {
     let mut count: u64 = 0;
     for one in told {
-        count = counted(count, tells(one, id), one);
-    }
-    count
-}
-
-/// Of how many sessions no known cause of their fault holds; the greatest number of 64 bits where there are more.
-pub(crate) fn count_unknown(told: &[CausesTold]) -> u64
-    ensures { result ≡ count_unknown told.now }
-{
-    let mut count: u64 = 0;
-    for one in told {
-        count = counted(count, one.is_unknown, one);
+        let passes = match id {
+            Some(id) => tells(one, id),
+            None => one.is_unknown,
+        };
+        count = counted(count, passes, one);
     }
     count
 }

@@ -2,11 +2,10 @@
 ghost use Rattle.std.specs.Prelude.{◌≡◌, IfOk, OnOk, codes, string_bytes};
 ghost use Rattle.serde_json.specs.Data.{no_members, object, put};
 ghost use Rattle.serde_json.specs.View.{members_view, view};
-ghost use Rattle.aud_explain_app.specs.Summary.Json.{causes_data, faults_data, figures_data, summary_data, summary_json, with_figures};
+ghost use Rattle.aud_explain_app.specs.Summary.Json.{causes_data, figures_data, summary_data, summary_json, with_figures};
 
 use crate::summary::Summary;
-use crate::summary::causes::{CausesTold, cause_names, count_unknown, count_with};
-use crate::summary::faults::Faults;
+use crate::summary::causes::{CausesTold, cause_names, count_with};
 use serde_json::{Map, Value, json, put};
 use std::alloc::{AllocError, Global};
 
@@ -37,7 +36,7 @@ fn figures_value(alloc: Global, summary: &Summary, told: &[CausesTold]) -> Resul
         ("bytes", summary.input.bytes),
         ("lines", summary.input.lines),
         ("no", summary.no as u64),
-        ("no_known_cause", count_unknown(told)),
+        ("no_known_cause", count_with(told, None)),
         ("seconds", summary.input.seconds),
         ("sessions", summary.sessions as u64),
         ("unobserved", summary.unobserved as u64),
@@ -66,7 +65,7 @@ fn figures_value(alloc: Global, summary: &Summary, told: &[CausesTold]) -> Resul
     put_causes(&mut map, alloc, told)?;
     put_object(&mut map, alloc, "class", &classes)?;
     put_object(&mut map, alloc, "entries", &entries)?;
-    put_faults(&mut map, alloc, &summary.faults)?;
+    put_object(&mut map, alloc, "fault", &summary.faults)?;
     put_object(&mut map, alloc, "recoveries", &recoveries)?;
     put_object(&mut map, alloc, "tail", &tails)?;
     Ok(Value::Object(map))
@@ -87,38 +86,10 @@ fn put_causes(
             &mut causes,
             alloc,
             name,
-            Value::from(count_with(told, name)),
+            Value::from(count_with(told, Some(*name))),
         )?;
     }
     put(map, alloc, "causes", Value::Object(causes))
-}
-
-/// Puts an object with all faults into the object.
-fn put_faults(
-    map: &mut Map<String, Value>,
-    alloc: Global,
-    faults: &Faults,
-) -> Result<(), AllocError>
-    ensures { OnOk result (members_view map.new.entries
-        ≡ put (codes "fault") (faults_data faults.now) (members_view map.old.entries)) }
-{
-    let counts = [
-        ("CHAIN", faults.chain as u64),
-        ("CLIENT", faults.client as u64),
-        ("CONTENT", faults.content as u64),
-        ("DOUBLED", faults.doubled as u64),
-        ("EXTRA", faults.extra as u64),
-        ("FRAME", faults.frame as u64),
-        ("LOST", faults.lost as u64),
-        ("NAMES", faults.names as u64),
-        ("NOLOG", faults.no_log as u64),
-        ("ORDER", faults.order as u64),
-        ("ORPHAN", faults.orphan as u64),
-        ("SWAPPED", faults.swapped as u64),
-        ("TAIL", faults.tail as u64),
-        ("WINDOW", faults.window as u64),
-    ];
-    put_object(map, alloc, "fault", &counts)
 }
 
 /// Puts an object with these figures into the object, under this name.

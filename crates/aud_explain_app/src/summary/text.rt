@@ -1,11 +1,11 @@
 //! A summary as lines.
 ghost use Rattle.std.specs.Prelude.{◌≡◌, ◌++◌, IfOk, OnOk, codes, string_bytes};
-ghost use Rattle.aud_explain_app.specs.Summary.Text.{causes_lines, class_line, classes_lines, count_line, counts_lines, fault_item, faults_seen, meaning_line, numbers_seen, summary_text};
+ghost use Rattle.aud_explain_app.specs.Summary.Counts.{faults_seen};
+ghost use Rattle.aud_explain_app.specs.Summary.Text.{causes_lines, class_line, classes_lines, count_line, counts_lines, fault_item, meaning_line, numbers_seen, summary_text};
 
 use crate::summary::Summary;
-use crate::summary::causes::{CausesTold, cause_names, count_unknown, count_with};
-use crate::summary::classes::Classes;
-use crate::summary::faults::Faults;
+use crate::summary::causes::{CausesTold, cause_names, count_with};
+use crate::summary::counts::{Classes, Faults};
 use std::alloc::{AllocError, Global};
 
 /// The summary as lines, each ended: at most ten, and one for each cause that was told. Of the classes and the faults
@@ -29,31 +29,17 @@ pub fn summary_text(
     Ok(out)
 }
 
-/// A line for each class that has a no.
+/// A line for each class that has a no. Of the faults five are of the recording, two of packets, and the others of
+/// delivery.
 fn push_classes(out: &mut String, classes: &Classes, faults: &Faults) -> Result<(), AllocError>
     ensures { OnOk result (string_bytes out.new
         ≡ string_bytes out.old ++ classes_lines classes.now faults.now) }
 {
-    let recording = [
-        ("NOLOG", faults.no_log),
-        ("CHAIN", faults.chain),
-        ("ORDER", faults.order),
-        ("CLIENT", faults.client),
-        ("NAMES", faults.names),
-    ];
-    let packets = [("FRAME", faults.frame), ("ORPHAN", faults.orphan)];
-    let delivery = [
-        ("CONTENT", faults.content),
-        ("EXTRA", faults.extra),
-        ("DOUBLED", faults.doubled),
-        ("SWAPPED", faults.swapped),
-        ("LOST", faults.lost),
-        ("WINDOW", faults.window),
-        ("TAIL", faults.tail),
-    ];
-    push_class(out, "recording", classes.recording, &recording)?;
-    push_class(out, "packets", classes.packets, &packets)?;
-    push_class(out, "delivery", classes.delivery, &delivery)
+    let (recording, others) = faults.split_at(5);
+    let (packets, delivery) = others.split_at(2);
+    push_class(out, "recording", classes.recording, recording)?;
+    push_class(out, "packets", classes.packets, packets)?;
+    push_class(out, "delivery", classes.delivery, delivery)
 }
 
 /// The class, its count, and those of its faults that some session has; nothing where the count is 0.
@@ -61,7 +47,7 @@ fn push_class(
     out: &mut String,
     name: &str,
     count: usize,
-    faults: &[(&str, usize)],
+    faults: &[(&str, u64)],
 ) -> Result<(), AllocError>
     ensures { OnOk result (string_bytes out.new
         ≡ string_bytes out.old ++ class_line name.now count (faults_seen faults.now)) }
@@ -77,7 +63,7 @@ fn push_class(
 }
 
 /// The fault and its count, unless that is 0.
-fn push_fault(out: &mut String, word: &str, count: usize) -> Result<(), AllocError>
+fn push_fault(out: &mut String, word: &str, count: u64) -> Result<(), AllocError>
     ensures { OnOk result (string_bytes out.new
         ≡ string_bytes out.old ++ fault_item word.now count) }
 {
@@ -92,9 +78,9 @@ fn push_causes(out: &mut String, told: &[CausesTold]) -> Result<(), AllocError>
     ensures { OnOk result (string_bytes out.new ≡ string_bytes out.old ++ causes_lines told.now) }
 {
     for name in cause_names() {
-        push_count(out, "cause", name, count_with(told, name))?;
+        push_count(out, "cause", name, count_with(told, Some(*name)))?;
     }
-    push_count(out, "no known", "cause", count_unknown(told))
+    push_count(out, "no known", "cause", count_with(told, None))
 }
 
 /// How many sessions have such a cause, unless none has.

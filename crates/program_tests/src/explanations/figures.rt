@@ -1,6 +1,6 @@
 //! The figures of a large recording, as text and as JSON.
 use aud_explain_app::{
-    CausesTold, Classes, Entries, Faults, Input, Recoveries, Summary, Tails, summary_json,
+    CausesTold, Classes, Entries, Input, Recoveries, Summary, Tails, summary_json,
     summary_text,
 };
 use std::alloc::{AllocError, Global};
@@ -16,22 +16,22 @@ const FIGURES: Summary = Summary {
         packets: 12,
         recording: 12,
     },
-    faults: Faults {
-        no_log: 2,
-        chain: 1,
-        order: 6,
-        client: 0,
-        names: 3,
-        frame: 8,
-        orphan: 4,
-        content: 10,
-        extra: 5,
-        doubled: 8,
-        swapped: 3,
-        lost: 4,
-        window: 0,
-        tail: 1,
-    },
+    faults: [
+        ("NOLOG", 2),
+        ("CHAIN", 1),
+        ("ORDER", 6),
+        ("CLIENT", 0),
+        ("NAMES", 3),
+        ("FRAME", 8),
+        ("ORPHAN", 4),
+        ("CONTENT", 10),
+        ("EXTRA", 5),
+        ("DOUBLED", 8),
+        ("SWAPPED", 3),
+        ("LOST", 4),
+        ("WINDOW", 0),
+        ("TAIL", 1),
+    ],
     tails: Tails {
         sessions: 5,
         events: 28,

@@ -1,6 +1,5 @@
 use Rattle.std.proofs.Common.{◌∙◌, ap, arith}
-use Rattle.aud_explain_app.specs.Summary.ByClass.{sum_of_classes}
-use Rattle.aud_explain_app.specs.Summary.ByFault.{sum_of_faults}
+use Rattle.aud_explain_app.specs.Summary.Counts.{sum_of_classes, sum_of_faults}
 use Rattle.aud_explain_app.proofs.Sums.{yes-and-no, granted-and-refused, by-class, by-fault}
 use Rattle.aud_explain_app.proofs.summary.summary_of.Goals as goal
 

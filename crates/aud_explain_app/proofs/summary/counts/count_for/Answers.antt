@@ -2,8 +2,8 @@ use Rattle.std.proofs.Common.{rules, tests, ◌∙◌}
 use Rattle.std.proofs.lemmas.Iterator.Consumers.{YieldsList-from_filter, count_from_yields_List}
 use Rattle.std.proofs.lemmas.Iterator.{YieldsList-from_slice}
 use Rattle.std.proofs.lemmas.List.Sums.{length-filter}
-use Rattle.aud_explain_app.specs.Summary.ByFault.{is_no_for}
-use Rattle.aud_explain_app.proofs.summary.faults.count_for.Goals as goal
+use Rattle.aud_explain_app.specs.Summary.Counts.{is_no_for}
+use Rattle.aud_explain_app.proofs.summary.counts.count_for.Goals as goal
 
 pub returns : goal.returns
 returns c =

@@ -3,7 +3,7 @@ use Rattle.std.proofs.lemmas.Iterator.Consumers.{YieldsList-from_filter, count_f
 use Rattle.std.proofs.lemmas.Iterator.{YieldsList-from_slice}
 use Rattle.std.proofs.lemmas.List.Sums.{length-filter}
 use Rattle.aud_verdict.specs.YesOf.{is_yes}
-use Rattle.aud_explain_app.proofs.summary.answers.count_yes.Goals as goal
+use Rattle.aud_explain_app.proofs.summary.counts.count_yes.Goals as goal
 
 pub returns : goal.returns
 returns c =

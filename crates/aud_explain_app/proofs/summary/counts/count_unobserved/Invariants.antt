@@ -1,6 +1,6 @@
 use Rattle.std.proofs.Common.{◌≡◌, ◌≤◌, take, count_by}
-use Rattle.aud_explain_app.specs.Summary.Answers.{is_unobserved}
-use Rattle.aud_explain_app.proofs.summary.answers.count_unobserved.Given as goal
+use Rattle.aud_explain_app.specs.Summary.Counts.{is_unobserved}
+use Rattle.aud_explain_app.proofs.summary.counts.count_unobserved.Given as goal
 
 abbrev pub invariant-loop-verdict : goal.invariant-loop-verdict
 invariant-loop-verdict l =

@@ -1,6 +1,6 @@
 use Rattle.std.proofs.Common.{◌≡◌, ◌≤◌, ◌^◌, ◌-◌, count_by, min, sum_by, take}
-use Rattle.aud_explain_app.specs.Summary.Tails.{has_tail, tail_of}
-use Rattle.aud_explain_app.proofs.summary.tails.tails_in.Given as goal
+use Rattle.aud_explain_app.specs.Summary.Counts.{has_tail, tail_of}
+use Rattle.aud_explain_app.proofs.summary.counts.tails_in.Given as goal
 
 abbrev pub invariant-loop-verdict : goal.invariant-loop-verdict
 invariant-loop-verdict l =

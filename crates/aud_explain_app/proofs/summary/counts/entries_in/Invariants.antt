@@ -1,6 +1,6 @@
 use Rattle.std.proofs.Common.{◌≡◌, ◌≤◌, take, count_by}
 use Rattle.aud_node.specs.Recoverable.{is_recoverable}
-use Rattle.aud_explain_app.proofs.summary.entries.entries_in.Given as goal
+use Rattle.aud_explain_app.proofs.summary.counts.entries_in.Given as goal
 
 abbrev pub invariant-loop-before : goal.invariant-loop-before
 invariant-loop-before l =

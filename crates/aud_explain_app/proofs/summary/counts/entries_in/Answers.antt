@@ -1,8 +1,8 @@
 use Rattle.std.proofs.Common.{◌<◌, length, ap, arith}
 use Rattle.std.proofs.lemmas.Grind.{common_steps}
 use Rattle.aud_explain_app.proofs.Counting.{recoverable-more}
-use Rattle.aud_explain_app.proofs.summary.entries.entries_in.Goals as goal
-use Rattle.aud_explain_app.proofs.summary.entries.entries_in.Goals.{then-recoverable, else-recoverable}
+use Rattle.aud_explain_app.proofs.summary.counts.entries_in.Goals as goal
+use Rattle.aud_explain_app.proofs.summary.counts.entries_in.Goals.{then-recoverable, else-recoverable}
 
 pub loop-before-preserved : goal.loop-before-preserved
 loop-before-preserved c =

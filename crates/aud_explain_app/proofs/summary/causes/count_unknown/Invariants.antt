@@ -1,6 +1,0 @@
-use Rattle.std.proofs.Common.{◌≡◌, ◌^◌, ◌-◌, take, min, sum_by}
-use Rattle.aud_explain_app.specs.Summary.Causes.{sessions_unknown}
-use Rattle.aud_explain_app.proofs.summary.causes.count_unknown.Given as goal
-
-abbrev pub invariant-loop-one : goal.invariant-loop-one
-invariant-loop-one l = l.count ≡ min (sum_by sessions_unknown (take l.one-index l.told)) (2 ^ 64 - 1)
