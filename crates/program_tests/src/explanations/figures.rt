@@ -1,7 +1,6 @@
 //! The figures of a large recording, as text and as JSON.
 use aud_explain_app::{
-    CausesTold, Classes, Entries, Input, Recoveries, Summary, Tails, summary_json,
-    summary_text,
+    CausesTold, Classes, Entries, Input, Recoveries, Summary, Tails, summary_json, summary_text,
 };
 use std::alloc::{AllocError, Global};
 use std::test::Fail;
