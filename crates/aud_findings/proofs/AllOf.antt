@@ -1,7 +1,8 @@
 -- All positions that pass a test.
-use Rattle.std.proofs.Common.{◌≡◌, ◌&&◌, ◌||◌, ◌∙◌, ℕ, Bool, true, false, List, [], ◌∷◌, cond, filter, nat_eq, refl, sym, ap, subst}
-use Rattle.std.proofs.lemmas.Bool.{eqb-true}
-use Rattle.std.proofs.lemmas.Bool.{eq-eqb}
+use Rattle.std.proofs.Common.{◌≡◌, ◌&&◌, ◌∙◌, ℕ, Bool, true, false, List, filter, nat_eq, refl, sym, ap, subst}
+use Rattle.std.proofs.lemmas.Bool.{eq-eqb, eqb-true}
+use Rattle.std.proofs.lemmas.Map.Views.{any-filter_same}
+use Rattle.std.proofs.Math.Bool.{and_comm}
 use Rattle.std.proofs.lemmas.List.Folds.{Any-from_list_any, list_any-from_Any}
 use Rattle.std.proofs.lemmas.List.Kept.{AllPairs-from_increasing, Contains-dedup_nat, Contains-from_dedup}
 use Rattle.std.proofs.lemmas.List.Sorted.{list_any-IsPermutation}
@@ -13,27 +14,9 @@ use Rattle.aud_findings.specs.Private.Seen.{is_also_by}
 use Rattle.aud_check.specs.Difference.{has_position}
 use Rattle.aud_findings.specs.Also.{AreAllOf, is_also}
 
-and_false : (b : Bool) → (b && false) ≡ false
-and_false true = refl
-and_false false = refl
-
-kept : (e i f t : Bool) → (e ≡ true → t ≡ true) → f ≡ (i && t) → (e || f) ≡ ((e || i) && t)
-kept true i f t same is = sym (same refl)
-kept false i f t same is = is
-
-left : (e i f t : Bool) → (e ≡ true → t ≡ false) → f ≡ (i && t) → f ≡ ((e || i) && t)
-left true i f t same is = is ∙ ap (λ b. i && b) (same refl) ∙ and_false i ∙ sym (same refl)
-left false i f t same is = is
-
 -- of those of a list that pass a test each stands in the list and passes
 pub has_filter : (test : ℕ → Bool) (xs : List ℕ) (p : ℕ) → has_position (filter test xs) p ≡ (has_position xs p && test p)
-has_filter test [] p = refl
-has_filter test (x ∷ xs) p = go (has_filter test xs p) (test x) refl
-  where
-    go : has_position (filter test xs) p ≡ (has_position xs p && test p) → (b : Bool) → test x ≡ b
-        → has_position (cond b (x ∷ filter test xs) (filter test xs)) p ≡ ((nat_eq x p || has_position xs p) && test p)
-    go others true is = kept (nat_eq x p) (has_position xs p) (has_position (filter test xs) p) (test p) (λ e. ap test (sym (eqb-true x p e)) ∙ is) others
-    go others false is = left (nat_eq x p) (has_position xs p) (has_position (filter test xs) p) (test p) (λ e. ap test (sym (eqb-true x p e)) ∙ is) others
+has_filter test xs p = any-filter_same (λ q. nat_eq q p) test (test p) (λ k e. ap test (eqb-true k p e)) xs ∙ and_comm (test p) (has_position xs p)
 
 -- those of another difference than that of an entry that was not due
 pub all_also : (received due positions : List ℕ) (difference : Difference) → ((frame position : ℕ) → difference ≡ Extra frame position → ⊥)

@@ -1,10 +1,10 @@
--- What is told of a session by its account: its other entries, and its tail.
+-- What is told of a session by its account: its other entries, frames that aren't theirs, and its tail.
 use Rattle.std.proofs.Common.{◌≡◌, ◌<◌, ℕ, List, map, length, slice_get, Option, Some, None, refl, sym, ap, subst, ◌∙◌, inl, inr}
 use Rattle.std.proofs.lemmas.Option.{none-some, same_Some, slice_get_within}
 use Rattle.aud_node.specs.Cluster.{Cluster}
 use Rattle.aud_node.specs.Names.{AreNamedOnce}
 use Rattle.aud_node.specs.Stream.{Text}
-use Rattle.aud_client.specs.StaySeen.{StaySeen}
+use Rattle.aud_client.specs.StaySeen.{FrameSeen, StaySeen}
 use Rattle.aud_cert.specs.Certificate.{CertificateSeen, TurnSeen, turn_at}
 use Rattle.aud_maker.specs.Made.{IsMade}
 use Rattle.aud_maker.proofs.BegunLemmas.{one_chain}
@@ -16,12 +16,13 @@ use Rattle.aud_check.specs.declared.difference.Difference.TheVariants as parted
 use Rattle.aud_check.specs.declared.finding.Finding.{Finding}
 use Rattle.aud_check.specs.declared.finding.Finding.TheVariants as finding
 use Rattle.aud_check.specs.Difference.{IsDifference}
+use Rattle.aud_check.specs.Frames.{frames_in}
 use Rattle.aud_check.specs.Window.{positions_received}
 use Rattle.aud_input.specs.TapLines.{TapLines}
 use Rattle.aud_rows.specs.Seen.{RowSeen}
 use Rattle.aud_session_facts.specs.ShowsDifference.{AreNumbersOf}
 use Rattle.aud_verdict.specs.Session.{own_stays, due_to}
-use Rattle.aud_findings.specs.Also.{AreAllOf, AreAlso, AreTailAlso, OthersSeen, entry_lines, is_also, lines_at, no_others, tail_others, told_of}
+use Rattle.aud_findings.specs.Also.{AreAllOf, AreAlso, AreAlteredAlso, AreTailAlso, OthersSeen, altered_lines, altered_positions, entry_lines, is_also, is_another, lines_at, no_others, tail_others, told_of}
 use Rattle.aud_findings.specs.Received.{frame_of, tail_positions}
 use Rattle.aud_findings.specs.Tail.{ShowsTail, tail_rows}
 use Rattle.aud_findings.specs.Private.Known.{IsWithin}
@@ -59,6 +60,25 @@ found_within c pid a of = go (difference_found a.found) refl
     go : (o : Option Difference) → difference_found a.found ≡ o → IsWithin (length (positions_received (stays_of a))) o
     go None e = tt
     go (Some d) e = shows_within (positions_received (stays_of a)) a.due.items d (is_found_so c pid a of d e)
+
+-- what is told of frames that aren't their entries is told of the session with such an account
+pub altered_told : (c : Cluster) (lines : List TapLines) (pid : Text) (client : ℕ) (stays : List StaySeen) (due : List ℕ) → IsAccount c pid client stays due
+    → (frames : List FrameSeen) → frames ≡ frames_in stays → (place : ℕ) (numbers : List ℕ) → place ≡ client → AreNumbersOf c pid place numbers
+    → (also : OthersSeen) (others : List ℕ) → AreAllOf (is_another (altered_positions c.stream frames)) others
+    → also ≡ told_of (altered_lines c lines place numbers frames) others → AreAlteredAlso c lines pid also
+altered_told c lines pid client stays due account frames frames_are place numbers at are also others all those =
+    let s = account.session in
+    let there : place ≡ s.client = at ∙ account.client_is in
+    let came : frames ≡ frames_in (own_stays c s) = frames_are ∙ ap frames_in account.stays_are in
+    record {
+      session = s;
+      is_session = account.is_session;
+      numbers = numbers;
+      are_its_stays = subst (λ p. AreNumbersOf c pid p numbers) there are;
+      others = others;
+      are_all = subst (λ fs. AreAllOf (is_another (altered_positions c.stream fs)) others) came all;
+      are = those ∙ (λ i. told_of (altered_lines c lines (there i) numbers (came i)) others);
+    }
 
 module _ (c : Cluster) (lines : List TapLines) (pid : Text) (client : ℕ) (stays : List StaySeen) (due : List ℕ) (account : IsAccount c pid client stays due)
     (received owed : List ℕ) (received_is : received ≡ positions_received stays) (owed_is : owed ≡ due) where

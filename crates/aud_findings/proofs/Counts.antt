@@ -3,6 +3,7 @@ use Rattle.std.proofs.Common.{◌≡◌, ◌<◌, ◌+◌, ◌&&◌, ◌||◌, �
 use Rattle.std.proofs.lemmas.Bool.Decides.{nat_tests}
 use Rattle.std.proofs.lemmas.List.Sums.{count_by_more_yes, count_by_more_no, sum_by-cons}
 use Rattle.std.proofs.lemmas.List.Folds.{list_any-append}
+use Rattle.std.proofs.Math.Bool.{or-false}
 use Rattle.std.specs.Bool.{if◌then◌else◌}
 use Rattle.std.proofs.lemmas.List.{take_more}
 use Rattle.aud_check.specs.Difference.{has_position}
@@ -37,12 +38,8 @@ twice_step false n m once old new e o t h = h ∙ t ∙ ap (nat_lt 1) (sym e)
 
 -- ---- one position more at the end
 
-or_false : (b : Bool) → (b || false) ≡ b
-or_false true = refl
-or_false false = refl
-
 has_end : (xs : List ℕ) (y p : ℕ) → has_position (xs ++ y ∷ []) p ≡ (has_position xs p || nat_eq y p)
-has_end xs y p = list_any-append (λ q. nat_eq q p) xs (y ∷ []) ∙ ap (λ b. has_position xs p || b) (or_false (nat_eq y p))
+has_end xs y p = list_any-append (λ q. nat_eq q p) xs (y ∷ []) ∙ ap (λ b. has_position xs p || b) (or-false (nat_eq y p))
 
 greatest_end : (xs : List ℕ) (y : ℕ) → greatest (xs ++ y ∷ []) ≡ max y (greatest xs)
 greatest_end [] y = refl

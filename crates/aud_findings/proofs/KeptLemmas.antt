@@ -1,13 +1,13 @@
--- Joined events tell of the same entries.
-use Rattle.std.proofs.Common.{◌≡◌, ◌≤◌, ◌-◌, ◌+◌, ℕ, zero, suc, Bool, true, false, nat_eq, List, [], ◌∷◌, ◌++◌, flat_map, Option, Some, None, refl, sym, ap, ◌∙◌, arith, append-nil, append_assoc}
-use Rattle.std.specs.Prelude.{if◌then◌else◌}
-use Rattle.std.specs.Prelude.{nat_le, option_to_list, slice_get}
+-- Events that are joined, and that they tell of the same entries.
+use Rattle.std.proofs.Common.{◌≡◌, ◌≤◌, ◌-◌, ◌+◌, ℕ, suc, Bool, true, false, nat_eq, List, [], ◌∷◌, ◌++◌, flat_map, Option, Some, None, refl, sym, ap, ◌∙◌, arith, append-nil, append_assoc}
+use Rattle.std.specs.Prelude.{if◌then◌else◌, nat_le, option_to_list, slice_get}
 use Rattle.std.specs.Option.{option_map, option_and_then}
 use Rattle.aud_tap.specs.declared.records.StreamRec.{StreamRec}
 use Rattle.aud_node.specs.Cluster.{Cluster}
 use Rattle.aud_node.specs.Stream.{Text, position}
 use Rattle.aud_client.specs.Replies.{is_this}
 use Rattle.aud_input.specs.TapLines.{TapLines}
+use Rattle.aud_input.proofs.LineRunsLemmas.{numbers_from-append}
 use Rattle.aud_rows.specs.declared.row.Role.TheVariants as role
 use Rattle.aud_rows.specs.EndRows.{lost_row}
 use Rattle.aud_rows.specs.Seen.{RowSeen, SaysSeen}
@@ -19,25 +19,13 @@ use Rattle.aud_explanation.specs.declared.event.Happens.{Happens}
 use Rattle.aud_explanation.specs.declared.event.Happens.TheVariants.{Asks, Got, Lost}
 use Rattle.aud_findings.specs.InOrder.{put_in, in_order}
 use Rattle.aud_findings.specs.ClientEvents.{answered, client_events, events_of_stays, first_line, frame_count, happens_of, may_be_of, received_events, row_events, stay_asks, stay_events, stay_row_events}
-use Rattle.aud_findings.specs.Runs.{extended, extended_by, joined_as, joined_happens, one_or_two, positions_in, positions_told, run_on}
+use Rattle.aud_findings.specs.Runs.{extended, extended_by, joined, joined_as, joined_happens, one_or_two, positions_in, positions_told, run_on}
 
--- so many numbers, and so many more, are all of them
-numbers-join : (first m k : ℕ) → numbers_from first m ++ numbers_from (first + m) k ≡ numbers_from first (m + k)
-numbers-join first zero k = ap (λ n. numbers_from n k) none ∙ ap (numbers_from first) all
-  where
-    none : first + 0 ≡ first
-    none = omega arith
-
-    all : k ≡ 0 + k
-    all = omega arith
-numbers-join first (suc m) k =
-    ap (λ n. first ∷ (numbers_from (suc first) m ++ numbers_from n k)) next ∙ ap (λ ns. first ∷ ns) (numbers-join (suc first) m k) ∙ ap (numbers_from first) all
-  where
-    next : first + suc m ≡ suc first + m
-    next = omega arith
-
-    all : suc (m + k) ≡ suc m + k
-    all = omega arith
+-- one event more, after a last one
+pub extended-last : (events : List ClientEvent) (last next : ClientEvent) → extended (events ++ last ∷ []) next ≡ events ++ one_or_two last next (joined last next)
+extended-last [] last next = refl
+extended-last (event ∷ []) last next = refl
+extended-last (event ∷ later ∷ events) last next = ap (λ es. event ∷ es) (extended-last (later ∷ events) last next)
 
 -- ---- what is joined
 
@@ -63,7 +51,7 @@ run-fits from to after last up up' = either (nat_eq after (suc to)) refl
         let next : after ≡ suc to = grind (arith, e) in
         let here : from + (suc to - from) ≡ after = omega (arith, next, up) in
         let all : (suc to - from) + (suc last - after) ≡ suc last - from = omega (arith, next, up, up') in (
-          sym (ap (λ n. numbers_from from (suc to - from) ++ numbers_from n (suc last - after)) (sym here) ∙ numbers-join from (suc to - from) (suc last - after) ∙ ap (numbers_from from) all),
+          sym (ap (λ n. numbers_from from (suc to - from) ++ numbers_from n (suc last - after)) (sym here) ∙ sym (numbers_from-append from (suc to - from) (suc last - after)) ∙ ap (numbers_from from) all),
           omega (arith, next, up, up'),
         )
 

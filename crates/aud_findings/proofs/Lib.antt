@@ -7,11 +7,9 @@ pub mod Counts
 pub mod Told
 pub mod Read
 pub mod Naming
+pub mod ChainRows
 pub mod Nodes
 pub mod Firsts
-pub mod Unaltered
 pub mod OrderLemmas
-pub mod RunLemmas
-pub mod NumberLemmas
 pub mod ChainLemmas
 pub mod KeptLemmas

@@ -7,7 +7,7 @@ use Rattle.aud_node.specs.Cluster.{Cluster}
 use Rattle.aud_node.specs.Stream.{Text}
 use Rattle.aud_client.specs.Received.{numbers_naming}
 use Rattle.aud_rows.specs.StayRows.{stays_at}
-use Rattle.aud_findings.specs.NamingReplies.{IsNamingTap, NamingSeen}
+use Rattle.aud_findings.specs.Unplaced.{IsNamingTap, NamingSeen}
 
 -- the tap at the place, with the numbers of its stays whose reply names the session
 abbrev pub named_tap : Cluster → Text → ℕ → NamingSeen
@@ -16,11 +16,6 @@ named_tap c pid place = record { place = place; numbers = numbers_naming pid (st
 pub taps_named : (c : Cluster) (pid : Text) (places : List ℕ) → AllZip (IsNamingTap c pid) places (map (named_tap c pid) places)
 taps_named c pid [] = tt
 taps_named c pid (place ∷ places) = (record { place_is = refl; are_its_stays = refl }, taps_named c pid places)
-
--- what is made of each of a mapped list
-pub over_mapped : {X Y Z : Type 0} (f : Y → List Z) (g : X → Y) (xs : List X) → flat_map (λ x. f (g x)) xs ≡ flat_map f (map g xs)
-over_mapped f g [] = refl
-over_mapped f g (x ∷ xs) = ap (λ zs. f (g x) ++ zs) (over_mapped f g xs)
 
 -- what is made of one more
 pub one_more : {X Z : Type 0} (f : X → List Z) (xs : List X) (i : ℕ) (d : X) (old new : List Z) → i < length xs

@@ -4,17 +4,14 @@ use Rattle.std.specs.List.{All, AllZip, Contains, list_any}
 use Rattle.std.proofs.lemmas.List.{take_more}
 use Rattle.std.proofs.lemmas.List.Elements.{All-cons, All-nil}
 use Rattle.std.proofs.lemmas.Option.{none-some, same_Some}
-use Rattle.aud_node.specs.Lists.{first_index}
 use Rattle.aud_node.specs.Cluster.{Cluster, node_log}
 use Rattle.aud_session_facts.specs.declared.place.RecordPlace.{RecordPlace}
 use Rattle.aud_findings.specs.Order.{AreInOrder, IsFirstOutOfOrder}
-use Rattle.aud_client.specs.Received.{is_orphan}
 use Rattle.aud_rows.specs.declared.client_places.ClientPlaces.{ClientPlaces}
-use Rattle.aud_rows.specs.StayRows.{stays_at}
 use Rattle.aud_findings.specs.declared.prepared.Prepared.{Prepared}
 use Rattle.aud_findings.specs.declared.prepared.PreparedTap.{PreparedTap}
 use Rattle.aud_findings.specs.declared.prepared.PreparedTap.TheVariants.{Client, Order}
-use Rattle.aud_findings.specs.Prepared.{IsRead, IsPreparedOf, IsOrderRead}
+use Rattle.aud_findings.specs.Prepared.{IsClientRead, IsOrderRead, IsPreparedOf, IsRead}
 use Rattle.aud_findings.specs.ShowsOrder.{AreOutOfOrder, places_in}
 use Rattle.aud_findings.proofs.Read.{zip_append}
 
@@ -89,15 +86,15 @@ order_told c prepared node tap unordered of at is =
     order_read c (list_any (nat_eq node) of.places) of.orders node unordered
     (subst (IsRead c (list_any (nat_eq node) of.places) of.orders node) is (of.are_read.each node tap (sym at)))
 
-orphan_read : (c : Cluster) (asked orders : Bool) (place : ℕ) (places : ClientPlaces) (orphan : Option ℕ) → IsRead c asked orders place (Client places orphan)
-    → orphan ≡ first_index is_orphan (stays_at c place)
-orphan_read c true orders place places orphan read = read.orphan_is
-orphan_read c false true place places orphan read = absurd read
-orphan_read c false false place places orphan read = absurd read
+client_read : (c : Cluster) (asked orders : Bool) (place : ℕ) (places : ClientPlaces) (orphan : Option ℕ) → IsRead c asked orders place (Client places orphan)
+    → IsClientRead c place places orphan
+client_read c true orders place places orphan read = read
+client_read c false true place places orphan read = absurd read
+client_read c false false place places orphan read = absurd read
 
 -- what was read of a client's tap
-pub orphan_told : (c : Cluster) (prepared : Prepared) (place : ℕ) (tap : PreparedTap) (places : ClientPlaces) (orphan : Option ℕ) → IsPreparedOf c prepared
-    → Some tap ≡ slice_get prepared.taps.items place → tap ≡ Client places orphan → orphan ≡ first_index is_orphan (stays_at c place)
-orphan_told c prepared place tap places orphan of at is =
-    orphan_read c (list_any (nat_eq place) of.places) of.orders place places orphan
+pub client_told : (c : Cluster) (prepared : Prepared) (place : ℕ) (tap : PreparedTap) (places : ClientPlaces) (orphan : Option ℕ) → IsPreparedOf c prepared
+    → Some tap ≡ slice_get prepared.taps.items place → tap ≡ Client places orphan → IsClientRead c place places orphan
+client_told c prepared place tap places orphan of at is =
+    client_read c (list_any (nat_eq place) of.places) of.orders place places orphan
     (subst (IsRead c (list_any (nat_eq place) of.places) of.orders place) is (of.are_read.each place tap (sym at)))

@@ -1,6 +1,7 @@
--- The first of numbers that passes.
-use Rattle.std.proofs.Common.{◌≡◌, ◌<◌, ◌≤◌, ◌+◌, ◌-◌, ℕ, suc, Bool, true, false, cond, Some, None, find, sym, ap, ◌∙◌, arith, add-one}
+-- The first of numbers that passes, and what a loop over numbers has added.
+use Rattle.std.proofs.Common.{◌≡◌, ◌<◌, ◌≤◌, ◌+◌, ◌-◌, ◌++◌, ℕ, suc, Bool, true, false, cond, List, Some, None, find, flat_map, sym, ap, ◌∙◌, arith, add-one, append_assoc}
 use Rattle.aud_node.specs.Lists.{numbers_from}
+use Rattle.aud_session_facts.proofs.Steps.{given-more}
 
 module _ (test : ℕ → Bool) (n end : ℕ) where
   begins : n < end → find test (numbers_from n (end - n)) ≡ cond (test n) (Some n) (find test (numbers_from (suc n) (end - suc n)))
@@ -20,3 +21,9 @@ module _ (test : ℕ → Bool) (n end : ℕ) where
   -- there is none
   pub found_nowhere : end ≤ n → find test (numbers_from n (end - n)) ≡ None
   found_nowhere h = let none : end - n ≡ 0 = omega arith in ap (λ k. find test (numbers_from n k)) none
+
+-- after what was there, what the numbers so far give, and one more
+pub added-more : {Y : Type 0} (f : ℕ → List Y) (i : ℕ) (first old new : List Y) → old ≡ first ++ flat_map f (numbers_from 0 i) → new ≡ old ++ f i
+    → new ≡ first ++ flat_map f (numbers_from 0 (i + 1))
+added-more f i first old new was more =
+    more ∙ ap (λ ys. ys ++ f i) was ∙ append_assoc first (flat_map f (numbers_from 0 i)) (f i) ∙ ap (λ ys. first ++ ys) (sym (given-more f i))

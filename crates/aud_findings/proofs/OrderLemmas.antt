@@ -87,25 +87,13 @@ module _ {X : Type 0} (n : X → ℕ) where
   -- ---- no other list does both
 
   head-of : (y z : X) (ys zs : List X) → y ∷ ys ≡ z ∷ zs → y ≡ z
-  head-of y z ys zs e = ap (first y) e
-    where
-      first : X → List X → X
-      first d [] = d
-      first d (x ∷ xs) = x
+  head-of y z ys zs e = cc
 
   tail-of : (y z : X) (ys zs : List X) → y ∷ ys ≡ z ∷ zs → ys ≡ zs
-  tail-of y z ys zs e = ap rest e
-    where
-      rest : List X → List X
-      rest [] = []
-      rest (x ∷ xs) = xs
+  tail-of y z ys zs e = cc
 
   not-empty : (y : X) (ys : List X) → y ∷ ys ≡ [] → ⊥
-  not-empty y ys e = subst filled e tt
-    where
-      filled : List X → Type 0
-      filled [] = ⊥
-      filled (x ∷ xs) = Unit {0}
+  not-empty y ys e = cc
 
   abbrev Alike : List X → List X → Type 0
   Alike ys zs = (x : X) → filter (same x) ys ≡ filter (same x) zs

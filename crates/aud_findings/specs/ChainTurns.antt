@@ -39,13 +39,9 @@ abbrev pub chain_span : Cluster → Turn → Option TurnSpan
 chain_span c t =
     if nat_lt t.from t.to then span_between t (slice_get (node_log c t.node) t.from) (slice_get (node_log c t.node) (t.to - 1)) else None
 
--- what is shown of the turn that stands there
-abbrev pub turn_shown : Cluster → List TapLines → Turn → Option ShownTurn
-turn_shown c lines t = option_and_then (span_shown c lines) (chain_span c t)
-
 -- what is shown of the turns, in their order
 abbrev pub turns_shown : Cluster → List TapLines → List TurnSeen → List ShownTurn
-turns_shown c lines turns = flat_map (λ t. option_to_list (turn_shown c lines (turn_at c t))) turns
+turns_shown c lines turns = flat_map (λ t. option_to_list (option_and_then (span_shown c lines) (chain_span c (turn_at c t)))) turns
 
 -- ---- turn k of a chain
 

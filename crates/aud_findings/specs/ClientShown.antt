@@ -40,15 +40,11 @@ abbrev pub only_of : List ℕ → Option ℕ
 only_of (place ∷ []) = Some place
 only_of _ = None
 
--- the first stay of the client's tap at the place whose reply names the session
-abbrev pub first_stay : Cluster → Text → ℕ → Option StaySeen
-first_stay c pid place = slice_get (stays_naming pid (stays_at c place)) 0
-
 -- the client of the tap at the place: the name of the tap, and the namespace of its first stay that names the session
 abbrev pub client_at : Cluster → Text → List RowSeen → ℕ → Option ClientSeen
 client_at c pid rows place =
     option_and_then
-    (λ (tap : Tap). option_map (λ (stay : StaySeen). record { tap = tap.name; nsp = stay.nsp; conn = fault_conn rows }) (first_stay c pid place))
+    (λ (tap : Tap). option_map (λ (stay : StaySeen). record { tap = tap.name; nsp = stay.nsp; conn = fault_conn rows }) (slice_get (stays_naming pid (stays_at c place)) 0))
     (slice_get c.taps place)
 
 -- the client that had the session, where just one tap has a reply that names it

@@ -17,14 +17,13 @@ use Rattle.aud_rows.specs.Seen.{RowSeen}
 use Rattle.aud_rows.specs.StayRows.{stays_at}
 use Rattle.aud_verdict.specs.Session.{SessionLogs, IsSession, own_stays, due_to}
 use Rattle.aud_findings.specs.ShowsChain.{ShowsChain}
-use Rattle.aud_findings.specs.ShowsClient.{ShowsClient}
 use Rattle.aud_findings.specs.ShowsFrame.{ShowsFrame, bad_number}
 use Rattle.aud_findings.specs.ShowsNames.{ShowsNames, AreNamedAlike}
-use Rattle.aud_findings.specs.ShowsNoLog.{ShowsNoLog}
 use Rattle.aud_findings.specs.ShowsOrder.{ShowsOrder, AreOrdered}
 use Rattle.aud_findings.specs.ShowsOrphan.{ShowsOrphan}
 use Rattle.aud_findings.specs.ShowsFound.{IsFoundOtherwise, ShowsFound}
 use Rattle.aud_findings.specs.Tail.{ShowsTail}
+use Rattle.aud_findings.specs.Unplaced.{ShowsClient, ShowsNoLog}
 
 -- the rows show something, or there is nothing to show, and there are none
 abbrev pub ShowsOr : (List RowSeen → Type 0) → Type 0 → List RowSeen → Type 0

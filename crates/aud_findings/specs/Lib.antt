@@ -15,12 +15,10 @@ pub use Rattle.aud_session_facts.specs.RowLists
 pub use Rattle.aud_session_facts.specs.ShowsDifference
 -- what is looked up of all clients at once
 pub mod Prepared
-pub mod NamingReplies
 -- faults of the recording and of packets
 pub mod Order
-pub mod ShowsNoLog
-pub mod ShowsClient
 pub mod ChainRecords
+pub mod Unplaced
 pub mod ShowsChain
 pub mod ShowsOrder
 pub mod ShowsNames

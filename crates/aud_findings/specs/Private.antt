@@ -1,6 +1,5 @@
 -- What contracts of private functions alone cite. No public clause rests on these words.
-pub mod Held
 pub mod InRanges
 pub mod Known
+pub mod ReadTaps
 pub mod Seen
-pub mod Wanted

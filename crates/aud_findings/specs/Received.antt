@@ -41,10 +41,6 @@ abbrev pub greatest : List ℕ → ℕ
 greatest [] = 0
 greatest (p ∷ positions) = max p (greatest positions)
 
--- how many of those due are past all that were received
-abbrev pub tail_of : List ℕ → List ℕ → ℕ
-tail_of received due = count_by (nat_lt (greatest received)) due
-
 -- the tail: those due past all that were received, ascending
 abbrev pub tail_positions : List ℕ → List ℕ → List ℕ
 tail_positions received due = filter (nat_lt (greatest received)) due
@@ -64,7 +60,7 @@ at_frame difference = option_map (λ d. frame_of d + 1) difference
 pub record AreFigures (received due : List ℕ) (difference : Option Difference) (figures : Account) : Type 0 where
   pub got_is : figures.got ≡ length received
   pub due_is : figures.due ≡ length due
-  pub tail_is : figures.tail ≡ tail_of received due
+  pub tail_is : figures.tail ≡ count_by (nat_lt (greatest received)) due
   pub at_is : figures.at_frame ≡ at_frame difference
 
 -- these are those of the session with this pid

@@ -3,7 +3,7 @@ ghost use Rattle.std.specs.Prelude.{◌≡◌, IfOk, IfSome, is_some, length};
 ghost use Rattle.aud_node.specs.Cluster.{Cluster};
 ghost use Rattle.aud_node.specs.Stream.{Text};
 ghost use Rattle.aud_session_facts.specs.Account.{IsAccountOf};
-ghost use Rattle.aud_findings.specs.Received.{AreFigures, AreFiguresOf, IsReceivedShown, at_frame, frame_of, greatest, is_judged};
+ghost use Rattle.aud_findings.specs.Received.{AreFigures, IsReceivedShown, greatest};
 ghost use Rattle.aud_findings.specs.Private.Known.{IsWithin};
 
 use aud_cert::{Class, class_of};
@@ -24,22 +24,19 @@ pub(crate) fn received_shown(
         → IfSome account.entry (λ a. IsAccountOf c pid a.now)
         → IfOk result (IsReceivedShown c pid (is_some account.entry) verdict.now) }
 {
-    match account {
-        Some(account) if is_judged(verdict) => Ok(Some(figures_of(alloc, account)?)),
-        _ => Ok(None),
+    let Some(account) = account else {
+        return Ok(None);
+    };
+    if let Verdict::No(fault) = verdict {
+        if !matches!(class_of(fault), Class::Delivery) {
+            return Ok(None);
+        }
     }
-}
-
-/// The figures of the account.
-fn figures_of(alloc: Global, account: &Account<'_, '_>) -> Result<Received, AllocError>
-    ensures { (c : Cluster) (pid : Text) → IsAccountOf c pid account.now
-        → IfOk result (AreFiguresOf c pid) }
-{
     let received = positions_received(alloc, account.stays.as_slice())?;
-    Ok(figures(&received, &account.due, account.difference()))
+    Ok(Some(figures(&received, &account.due, account.difference())))
 }
 
-/// Those of these positions received and these due, of which this is the difference.
+/// The figures of these positions received and these due, of which this is the difference.
 fn figures(received: &[u64], due: &[u64], difference: Option<Difference>) -> Received
     ensures { IsWithin (length received.now) difference
         → AreFigures received.now due.now difference result }
@@ -50,7 +47,12 @@ fn figures(received: &[u64], due: &[u64], difference: Option<Difference>) -> Rec
         due: due.len() as u64,
         tail: due.iter().filter(|position| last < **position).count() as u64,
         at_frame: match difference {
-            Some(difference) => Some((frame_of(difference) as u64).saturating_add(1)),
+            Some(
+                Difference::Extra { frame, .. }
+                | Difference::Doubled { again: frame, .. }
+                | Difference::Swapped { frame, .. }
+                | Difference::Lost { frame, .. },
+            ) => Some((frame as u64).saturating_add(1)),
             None => None,
         },
     }
@@ -65,26 +67,4 @@ pub(crate) fn greatest(positions: &[u64]) -> u64
         greatest = (*position).max(greatest);
     }
     greatest
-}
-
-/// The frame at which the difference shows.
-fn frame_of(difference: Difference) -> usize
-    ensures { result ≡ frame_of difference }
-{
-    match difference {
-        Difference::Extra { frame, .. }
-        | Difference::Doubled { again: frame, .. }
-        | Difference::Swapped { frame, .. }
-        | Difference::Lost { frame, .. } => frame,
-    }
-}
-
-/// Whether the delivery was judged.
-fn is_judged(verdict: &Verdict) -> bool
-    ensures { result ≡ is_judged verdict.now }
-{
-    match verdict {
-        Verdict::Yes { .. } => true,
-        Verdict::No(fault) => matches!(class_of(fault), Class::Delivery),
-    }
 }

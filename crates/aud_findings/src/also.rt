@@ -1,26 +1,24 @@
 //! The other entries that have the same fault, with the lines that show it.
-ghost use Rattle.std.specs.Prelude.{◌≡◌, ◌++◌, IfOk, IfSome, OnOk, is_some, option_map, true};
+ghost use Rattle.std.specs.Prelude.{◌≡◌, IfOk, IfSome, is_some, true};
 ghost use Rattle.aud_session_facts.specs.Account.{IsAccountOf};
 ghost use Rattle.aud_rows.specs.ClientPlaces.{AreOf};
-ghost use Rattle.aud_rows.specs.Seen.{row_seen};
-ghost use Rattle.aud_rows.specs.TrueRow.{IsTrueRow};
-ghost use Rattle.aud_session_facts.specs.FramePlaces.{frame_at};
 ghost use Rattle.aud_findings.specs.Prepared.{IsPreparedOf};
-ghost use Rattle.aud_findings.specs.Also.{AreAlso, IsAlsoShown, also_seen, entry_lines, frame_row_at, got_lines, line_of, lines_at, no_others, others_seen, range_shown, told_of};
+ghost use Rattle.aud_findings.specs.Also.{AreAlso, IsAlsoShown, also_seen, entry_lines, got_lines, lines_at, no_others, others_seen, range_shown, told_of};
 ghost use Rattle.aud_verdict.specs.declared.verdict.Verdict.TheVariants.{No};
 ghost use Rattle.aud_findings.specs.Private.InRanges.{range_seen};
 
 use crate::altered::altered_also;
+use crate::lines::{entry_lines, frame_lines};
 use crate::others::others;
 use crate::outcome::{AlsoShown, OthersShown};
 use crate::prepared::{Prepared, tap_at};
 use crate::ranges::{Range, ranges_of};
-use crate::replies::numbers_naming;
+use crate::record_at::numbers_naming;
 use crate::tail::tail_also;
 use aud_cert::Fault;
 use aud_check::Difference;
-use aud_rows::{ClientPlaces, Role, Row, Sheet};
-use aud_session_facts::{Account, frame_at, positions_received};
+use aud_rows::{ClientPlaces, Sheet};
+use aud_session_facts::{Account, positions_received};
 use aud_verdict::Verdict;
 use std::alloc::{AllocError, Global};
 
@@ -156,43 +154,6 @@ pub(crate) fn entries_also(
     })
 }
 
-/// The range, where these are the lines of its first entry and of its last one.
-pub(crate) fn range_shown(
-    range: Range,
-    first: Vec<u64>,
-    last: &[u64],
-) -> Result<AlsoShown, AllocError>
-    ensures { IfOk result (λ also. also_seen also
-        ≡ range_shown (range_seen range) first.items last.now) }
-{
-    let mut lines = first;
-    if range.first != range.last {
-        lines.truncate(1);
-        if let Some(line) = last.last() {
-            lines.push(*line)?;
-        }
-    }
-    Ok(AlsoShown {
-        position: range.first,
-        to: range.last,
-        lines,
-    })
-}
-
-/// The line of the entry.
-pub(crate) fn entry_lines(
-    alloc: Global,
-    sheet: &Sheet<'_, '_>,
-    position: u64,
-) -> Result<Vec<u64>, AllocError>
-    ensures { IfOk result (λ lines. lines.items
-        ≡ entry_lines sheet.now.recording.now sheet.now.lines.now position) }
-{
-    let mut lines = Vec::new(alloc);
-    push_line(&mut lines, sheet.stream_row(position, Role::Entry))?;
-    Ok(lines)
-}
-
 /// The entries at these positions, each as it came, where these are the positions of all frames.
 fn frames_also(
     alloc: Global,
@@ -220,59 +181,25 @@ fn frames_also(
     })
 }
 
-/// The lines of all frames of the position.
-fn frame_lines(
-    alloc: Global,
-    sheet: &Sheet<'_, '_>,
-    tap: &ClientPlaces,
-    numbers: &[usize],
-    received: &[u64],
-    position: u64,
-) -> Result<Vec<u64>, AllocError>
-    requires { AreOf sheet.now.recording.now tap.now }
-    ensures { IfOk result (λ lines. lines.items
-        ≡ got_lines sheet.now.recording.now sheet.now.lines.now tap.now.place numbers.now
-        received.now position) }
+/// The range, where these are the lines of its first entry and of its last one.
+pub(crate) fn range_shown(
+    range: Range,
+    first: Vec<u64>,
+    last: &[u64],
+) -> Result<AlsoShown, AllocError>
+    ensures { IfOk result (λ also. also_seen also
+        ≡ range_shown (range_seen range) first.items last.now) }
 {
-    let mut lines = Vec::new(alloc);
-    for (frame, other) in received.iter().enumerate() {
-        if *other == position {
-            push_line(
-                &mut lines,
-                frame_row(sheet, tap, numbers, frame, Role::Later),
-            )?;
+    let mut lines = first;
+    if range.first != range.last {
+        lines.truncate(1);
+        if let Some(line) = last.last() {
+            lines.push(*line)?;
         }
     }
-    Ok(lines)
-}
-
-/// Adds the line of the row, if there is one.
-pub(crate) fn push_line(lines: &mut Vec<u64>, row: Option<Row<'_>>) -> Result<(), AllocError>
-    ensures { OnOk result (lines.new.items
-        ≡ lines.old.items ++ line_of (option_map row_seen row.entry)) }
-{
-    if let Some(row) = row {
-        lines.push(row.line)?;
-    }
-    Ok(())
-}
-
-/// The row of the frame with this number over these stays.
-#[tactic(auto, using(crate::proofs::Told::told_some, aud_session_facts::proofs::NoClient::no_frame))]
-pub(crate) fn frame_row<'r>(
-    sheet: &Sheet<'r, '_>,
-    tap: &ClientPlaces,
-    numbers: &[usize],
-    frame: usize,
-    role: Role,
-) -> Option<Row<'r>>
-    requires { AreOf sheet.now.recording.now tap.now }
-    ensures row { option_map row_seen result
-        ≡ frame_row_at sheet.now.recording.now sheet.now.lines.now tap.now.place numbers.now frame
-        role }
-    ensures truth { IfSome result (IsTrueRow sheet.now.recording.now sheet.now.lines.now) }
-{
-    let client = sheet.recording.client(tap.place)?;
-    let at = frame_at(&client.transcript().stays, numbers, frame)?;
-    sheet.frame_row(tap, at.stay, at.frame, role)
+    Ok(AlsoShown {
+        position: range.first,
+        to: range.last,
+        lines,
+    })
 }

@@ -4,14 +4,15 @@ ghost use Rattle.aud_session_facts.specs.Account.{IsAccountOf};
 ghost use Rattle.aud_rows.specs.ClientPlaces.{AreOf};
 ghost use Rattle.aud_findings.specs.Also.{AreAllOf, AreAlteredAlso, altered_lines, altered_positions, is_another, others_seen, told_of};
 
-use crate::also::{entry_lines, frame_row, push_line, range_shown};
+use crate::also::range_shown;
+use crate::lines::altered_lines;
 use crate::outcome::OthersShown;
 use crate::ranges::ranges_of;
-use crate::replies::numbers_naming;
+use crate::record_at::numbers_naming;
 use aud_check::frames_in;
 use aud_client::{Frame, is_entry};
 use aud_node::Stream;
-use aud_rows::{ClientPlaces, Role, Sheet};
+use aud_rows::{ClientPlaces, Sheet};
 use aud_session_facts::Account;
 use std::alloc::{AllocError, Global};
 
@@ -68,33 +69,6 @@ fn all_altered(
         ranges,
         left: entries.left,
     })
-}
-
-/// The line of the entry at the position, and those of all frames of it that aren't it, in the order in which they
-/// came.
-fn altered_lines(
-    alloc: Global,
-    sheet: &Sheet<'_, '_>,
-    tap: &ClientPlaces,
-    numbers: &[usize],
-    frames: &[&Frame<'_>],
-    position: u64,
-) -> Result<Vec<u64>, AllocError>
-    requires { AreOf sheet.now.recording.now tap.now }
-    ensures { IfOk result (λ lines. lines.items
-        ≡ altered_lines sheet.now.recording.now sheet.now.lines.now tap.now.place numbers.now
-        (map (λ frame. frame.now) frames.now) position) }
-{
-    let mut lines = entry_lines(alloc, sheet, position)?;
-    for (number, frame) in frames.iter().enumerate() {
-        if frame.position == position && !is_entry(sheet.recording.logs().stream(), *frame) {
-            push_line(
-                &mut lines,
-                frame_row(sheet, tap, numbers, number, Role::Later),
-            )?;
-        }
-    }
-    Ok(lines)
 }
 
 /// The positions of the frames that aren't the entry there, in the order in which they came.

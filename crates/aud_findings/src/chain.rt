@@ -37,7 +37,7 @@ pub fn chain_shown<'r>(
 }
 
 /// The records of these marks, and the one that does not fit, where it is none of them.
-fn chain_records(
+pub(crate) fn chain_records(
     alloc: Global,
     misfit: Misfit,
     marks: &[TurnMark],
@@ -67,24 +67,27 @@ fn other_at(misfit: Misfit, marks: &[TurnMark]) -> Option<RecordPlace>
     if has_fault(misfit, marks) {
         return None;
     }
-    fault_at(misfit)
+    places_of(misfit).0
 }
 
 /// Whether one of these is the record that does not fit.
 fn has_fault(misfit: Misfit, marks: &[TurnMark]) -> bool
     ensures { result ≡ list_any (is_fault_at misfit) marks.now }
 {
-    marks.iter().any(|mark| is_at(fault_at(misfit), mark.place))
+    marks
+        .iter()
+        .any(|mark| is_at(places_of(misfit).0, mark.place))
 }
 
 /// What the record is shown for.
 fn role_in(misfit: Misfit, mark: TurnMark) -> Role
     ensures { result ≡ role_in misfit mark }
 {
-    if is_at(fault_at(misfit), mark.place) {
+    let (fault, earlier) = places_of(misfit);
+    if is_at(fault, mark.place) {
         return Role::Fault;
     }
-    if is_at(earlier_at(misfit), mark.place) {
+    if is_at(earlier, mark.place) {
         return Role::Earlier;
     }
     mark_role(mark.mark)
@@ -101,7 +104,7 @@ fn is_at(found: Option<RecordPlace>, place: RecordPlace) -> bool
 }
 
 /// What a record that begins or ends a turn is shown for, where it fits.
-pub(crate) fn mark_role(mark: Mark) -> Role
+fn mark_role(mark: Mark) -> Role
     ensures { result ≡ mark_role mark }
 {
     match mark {
@@ -110,36 +113,21 @@ pub(crate) fn mark_role(mark: Mark) -> Role
     }
 }
 
-/// The record that the one at fault contradicts.
-fn earlier_at(misfit: Misfit) -> Option<RecordPlace>
-    ensures { result ≡ earlier_at misfit }
+/// The record that is at fault, and the one that it contradicts.
+fn places_of(misfit: Misfit) -> (Option<RecordPlace>, Option<RecordPlace>)
+    ensures fault { result.0 ≡ fault_at misfit }
+    ensures earlier { result.1 ≡ earlier_at misfit }
 {
     match misfit {
-        Misfit::BegunTwice { first, .. } => Some(first),
-        Misfit::AfterTurn { end, .. } => Some(end),
-        Misfit::InsideTurn { begin, .. } => Some(begin),
-        Misfit::MissingBreak { begin, .. } => Some(begin),
-        Misfit::StrayBreak { begin, .. } => Some(begin),
-        Misfit::OtherBreak { begin, .. } => Some(begin),
-        Misfit::BackAfterGone { gone, .. } => Some(gone),
-        Misfit::NeverOpened | Misfit::MissingTurn { .. } | Misfit::BeforeTurns { .. } => None,
-    }
-}
-
-/// The record that is at fault.
-fn fault_at(misfit: Misfit) -> Option<RecordPlace>
-    ensures { result ≡ fault_at misfit }
-{
-    match misfit {
-        Misfit::NeverOpened => None,
-        Misfit::BegunTwice { again, .. } => Some(again),
-        Misfit::MissingTurn { back, .. } => Some(back),
-        Misfit::BeforeTurns { place } => Some(place),
-        Misfit::AfterTurn { place, .. } => Some(place),
-        Misfit::InsideTurn { place, .. } => Some(place),
-        Misfit::MissingBreak { back, .. } => Some(back),
-        Misfit::StrayBreak { back, .. } => Some(back),
-        Misfit::OtherBreak { broke, .. } => Some(broke),
-        Misfit::BackAfterGone { back, .. } => Some(back),
+        Misfit::NeverOpened => (None, None),
+        Misfit::BegunTwice { first, again, .. } => (Some(again), Some(first)),
+        Misfit::MissingTurn { back, .. } => (Some(back), None),
+        Misfit::BeforeTurns { place } => (Some(place), None),
+        Misfit::AfterTurn { end, place } => (Some(place), Some(end)),
+        Misfit::InsideTurn { begin, place } => (Some(place), Some(begin)),
+        Misfit::MissingBreak { begin, back, .. } => (Some(back), Some(begin)),
+        Misfit::StrayBreak { begin, back, .. } => (Some(back), Some(begin)),
+        Misfit::OtherBreak { begin, broke, .. } => (Some(broke), Some(begin)),
+        Misfit::BackAfterGone { gone, back } => (Some(back), Some(gone)),
     }
 }

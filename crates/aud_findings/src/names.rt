@@ -1,7 +1,6 @@
 //! What shows that a reply names a session otherwise than its `open`.
 ghost use Rattle.std.specs.Prelude.{◌≡◌, IfOk, IfSome, MatchOption, None, find, map};
 ghost use Rattle.std.specs.Option.{option_copied};
-ghost use Rattle.aud_check.specs.NamedStays.{has_sid};
 ghost use Rattle.aud_node.specs.Stream.{Text};
 ghost use Rattle.aud_session_facts.specs.declared.marks.TurnMark.{TurnMark};
 ghost use Rattle.aud_session_facts.specs.Marks.{turn_marks};
@@ -11,9 +10,8 @@ ghost use Rattle.aud_rows.specs.StayRows.{stays_at};
 ghost use Rattle.aud_session_facts.specs.RowLists.{AreTrueRows};
 ghost use Rattle.aud_findings.specs.ShowsNames.{AreNamedAlike, IsOpenedAs, ShowsNames, first_otherwise, is_open_mark, is_some_otherwise};
 
-use crate::record_at::{record_at, stay_at};
-use crate::replies::numbers_naming;
-use aud_client::{Recording, Reply, Stay};
+use crate::record_at::{numbers_naming, record_at, stay_at};
+use aud_client::{Recording, Stay};
 use aud_node::Logs;
 use aud_rows::{ClientPlaces, Role, Row, Sheet};
 use aud_session_facts::{Mark, RecordPlace, TurnMark, push_row, turn_marks};
@@ -124,20 +122,14 @@ fn is_named_otherwise(stay: Option<&Stay<'_>>, pid: &str, opened: OpenedAs<'_>) 
         (record { pid = pid.now; sid = opened.entry.sid.now; nsp = opened.entry.nsp.now })
         (option_copied stay.entry) }
 {
-    match stay {
-        Some(stay) => {
-            stay.names(pid) && !(stay.nsp == opened.nsp && has_sid(&stay.reply, opened.sid))
+    let Some(stay) = stay else {
+        return false;
+    };
+    match stay.reply.as_ref() {
+        Some(reply) => {
+            let is_of_it = stay.nsp == opened.nsp && reply.sid.as_str() == opened.sid;
+            stay.names(pid) && !is_of_it
         }
-        None => false,
-    }
-}
-
-/// Whether there is a reply, and it has this sid.
-fn has_sid(reply: &Option<Reply>, sid: &str) -> bool
-    ensures { result ≡ has_sid sid.now reply.now }
-{
-    match reply {
-        Some(reply) => reply.sid.as_str() == sid,
         None => false,
     }
 }

@@ -6,16 +6,15 @@ ghost use Rattle.aud_session_facts.specs.RowLists.{AreTrueRows};
 ghost use Rattle.aud_findings.specs.Prepared.{IsPreparedOf};
 ghost use Rattle.aud_findings.specs.Also.{IsAlsoShown, others_seen};
 ghost use Rattle.aud_findings.specs.Received.{IsReceivedShown};
-ghost use Rattle.aud_findings.specs.ClientShown.{client_of, client_seen};
+ghost use Rattle.aud_findings.specs.ClientShown.{client_of, client_seen, fault_conn};
 ghost use Rattle.aud_findings.specs.Evidence.{IsEvidence};
 
 use crate::account::received_shown;
 use crate::also::also_found;
-use crate::client::client_of;
 use crate::evidence::evidence_of;
 use crate::prepared::Prepared;
 use aud_explanation::{Account as Received, Client};
-use aud_rows::{Row, Sheet};
+use aud_rows::{Role, Row, Says, Sheet};
 use aud_session_facts::Account;
 use aud_verdict::Verdict;
 use std::alloc::{AllocError, Global};
@@ -92,4 +91,55 @@ pub fn outcome_of<'r, 'a>(
         evidence,
         also,
     })
+}
+
+/// The client of the one tap with a reply that names the session, and the connection on which these rows show the
+/// fault; none where there is no such tap, or several.
+#[tactic(auto, using(crate::proofs::Told::told_some, crate::proofs::Told::told_none))]
+fn client_of<'r>(
+    alloc: Global,
+    sheet: &Sheet<'r, '_>,
+    pid: &str,
+    rows: &[Row<'_>],
+) -> Result<Option<Client<'r>>, AllocError>
+    ensures { IfOk result (λ client. option_map client_seen client
+        ≡ client_of sheet.now.recording.now pid.now (map row_seen rows.now)) }
+{
+    let [place] = sheet.recording.naming(pid) else {
+        return Ok(None);
+    };
+    let Some(tap) = sheet.recording.logs().taps().get(*place) else {
+        return Ok(None);
+    };
+    let Some(client) = sheet.recording.client(*place) else {
+        return Ok(None);
+    };
+    let stays = client.naming(alloc, pid)?;
+    let Some(stay) = stays.first().copied() else {
+        return Ok(None);
+    };
+    Ok(Some(Client {
+        tap: tap.name.as_str(),
+        nsp: stay.nsp,
+        conn: fault_conn(rows),
+    }))
+}
+
+/// The connection of the first of the rows at which the fault shows, if that is of a client's record.
+fn fault_conn(rows: &[Row<'_>]) -> Option<u64>
+    ensures { result ≡ fault_conn (map row_seen rows.now) }
+{
+    for row in rows {
+        if matches!(row.role, Role::Fault) {
+            return match row.says {
+                Says::Asks { conn, .. }
+                | Says::Reply { conn, .. }
+                | Says::Got { conn, .. }
+                | Says::Lost { conn }
+                | Says::NoPacket { conn } => Some(conn),
+                _ => None,
+            };
+        }
+    }
+    None
 }

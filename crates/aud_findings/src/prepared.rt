@@ -1,17 +1,15 @@
 //! What is read once of a recording for all its explanations.
-ghost use Rattle.std.specs.Prelude.{◌≡◌, IfOk, IfSome, length};
+ghost use Rattle.std.specs.Prelude.{◌≡◌, IfOk, IfSome, length, slice_get, slice_set, true};
 ghost use Rattle.std.specs.List.{AllZip};
 ghost use Rattle.std.specs.Option.{option_copied};
 ghost use Rattle.aud_base.specs.Lists.{numbers_from};
 ghost use Rattle.aud_node.specs.Cluster.{Cluster};
 ghost use Rattle.aud_rows.specs.ClientPlaces.{AreOf};
 ghost use Rattle.aud_findings.specs.Prepared.{AreRead, IsPreparedOf, IsRead, tap_in};
-ghost use Rattle.aud_findings.specs.Private.Held.{held_places};
-ghost use Rattle.aud_findings.specs.Private.Wanted.{IsReadBy};
+ghost use Rattle.aud_findings.specs.Private.ReadTaps.{AreWanted, IsReadBy, held_places, is_wanted};
 
+use crate::order::first_unordered;
 use crate::orphan::orphan_at;
-use crate::unordered::first_unordered;
-use crate::wanted::{is_wanted, wanted_of};
 use aud_client::Recording;
 use aud_rows::ClientPlaces;
 use std::alloc::{AllocError, Global};
@@ -85,14 +83,8 @@ impl Prepared {
         ensures is_of { (c : Cluster) → IsPreparedOf c self.now
             → IfSome result (λ tap. AreOf c tap.now × (tap.now.place ≡ place)) }
     {
-        self.tap_in(place)
-    }
-
-    fn tap_in(&self, place: usize) -> Option<&ClientPlaces>
-        ensures { option_copied result ≡ tap_in self.now place }
-    {
-        match self.taps.get(place)? {
-            PreparedTap::Client { places, .. } => Some(places),
+        match self.taps.get(place) {
+            Some(PreparedTap::Client { places, .. }) => Some(places),
             _ => None,
         }
     }
@@ -115,6 +107,36 @@ pub(crate) fn tap_at<'p>(
             let places = ClientPlaces::read(alloc, recording.logs(), place)?;
             Ok(HeldTap::Read(places))
         }
+    }
+}
+
+/// Of each of so many places, whether it is one of these.
+fn wanted_of(alloc: Global, count: usize, places: &[usize]) -> Result<Vec<bool>, AllocError>
+    ensures { IfOk result (λ wanted. AreWanted count places.now wanted.items) }
+{
+    let mut wanted = vec![in alloc; false; count]?;
+    for place in places {
+        mark(&mut wanted, *place);
+    }
+    Ok(wanted)
+}
+
+/// The place is one of them, if it isn't past the end.
+fn mark(wanted: &mut Vec<bool>, place: usize)
+    ensures { wanted.new.items ≡ slice_set wanted.old.items place true }
+{
+    if place < wanted.len() {
+        wanted[place] = true;
+    }
+}
+
+/// Whether the place is wanted, by these marks.
+fn is_wanted(wanted: &[bool], place: usize) -> bool
+    ensures { result ≡ is_wanted (slice_get wanted.now place) }
+{
+    match wanted.get(place) {
+        Some(wanted) => *wanted,
+        None => false,
     }
 }
 

@@ -9,7 +9,7 @@ ghost use Rattle.aud_findings.specs.RoomChanges.{change_in, is_changed, left_cha
 use aud_cert::{Certificate, Turn, turn_place};
 use aud_node::Logs;
 use aud_session_facts::{NotDue, Reach, RoomChange, first_reach, last_change_of, why_not_due};
-use aud_tap::{StreamRec, Text};
+use aud_tap::StreamRec;
 
 /// The last change, a join or a leave as asked for, of the first of the rooms of the entry at the position that has one
 /// before the session first reached the entry.
@@ -22,7 +22,7 @@ pub(crate) fn room_change(
     ensures { result ≡ room_change logs.now cert.now joined position }
 {
     let reach = reach_of(logs, cert.turns.as_slice(), position)?;
-    let room = first_room(logs, cert, reach, joined, rooms_at(logs, position))?;
+    let room = first_room(logs, cert, reach, joined, position)?;
     change_in(logs, cert, reach, joined, room)
 }
 
@@ -37,7 +37,7 @@ pub(crate) fn left_change(
 {
     let turns = cert.turns.as_slice();
     let reach = reach_of(logs, turns, position)?;
-    let room = first_room(logs, cert, reach, true, rooms_at(logs, position))?;
+    let room = first_room(logs, cert, reach, true, position)?;
     let turn = turns.get(reach.turn)?;
     let end = Reach {
         number: turn_place(logs, turn).to,
@@ -74,18 +74,23 @@ pub(crate) fn reach_of(logs: &Logs<'_>, turns: &[Turn<'_>], position: u64) -> Op
     first_reach(logs, turns, position)
 }
 
-/// The first of these rooms whose last change before the reach is a join or a leave as asked for.
-fn first_room<'e>(
-    logs: &Logs<'_>,
+/// The first of the rooms that the event at the position is for whose last change before the reach is a join or a leave
+/// as asked for; none of another entry.
+fn first_room<'a>(
+    logs: &Logs<'a>,
     cert: &Certificate<'_>,
     reach: Reach,
     joined: bool,
-    rooms: &'e [Text],
-) -> Option<&'e str>
+    position: u64,
+) -> Option<&'a str>
     ensures { option_map (λ room. room.now) result
-        ≡ find (is_changed logs.now cert.now reach joined) rooms.now }
+        ≡ find (is_changed logs.now cert.now reach joined)
+        (rooms_in (entry logs.now.stream position)) }
 {
-    for room in rooms {
+    let Some(StreamRec::Ev(event)) = logs.stream().entry(position) else {
+        return None;
+    };
+    for room in event.rooms.as_slice() {
         if change_in(logs, cert, reach, joined, room.as_str()).is_some() {
             return Some(room.as_str());
         }
@@ -108,15 +113,5 @@ fn change_in(
         Some(change)
     } else {
         None
-    }
-}
-
-/// The rooms that the event at the position is for; none of another entry.
-fn rooms_at<'a>(logs: &Logs<'a>, position: u64) -> &'a [Text]
-    ensures { result.now ≡ rooms_in (entry logs.now.stream position) }
-{
-    match logs.stream().entry(position) {
-        Some(StreamRec::Ev(event)) => event.rooms.as_slice(),
-        _ => &[],
     }
 }

@@ -13,7 +13,8 @@ ghost use Rattle.aud_findings.specs.Tail.{ShowsTail, reached_row, tail_rows};
 ghost use Rattle.aud_findings.specs.Private.Known.{IsShownBy};
 
 use crate::account::greatest;
-use crate::also::{entries_also, frame_row};
+use crate::also::entries_also;
+use crate::lines::frame_row;
 use crate::outcome::OthersShown;
 use crate::rooms::reach_of;
 use aud_cert::Turn;

@@ -6,5 +6,4 @@ pub mod laws;
 pub mod marks;
 pub mod refused;
 pub mod runs;
-pub mod shown;
 pub mod span;

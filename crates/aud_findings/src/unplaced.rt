@@ -7,20 +7,18 @@ ghost use Rattle.aud_rows.specs.ClientPlaces.{AreOf};
 ghost use Rattle.aud_rows.specs.TrueRow.{IsTrueRow};
 ghost use Rattle.aud_session_facts.specs.RowLists.{AreTrueRows};
 ghost use Rattle.aud_findings.specs.Prepared.{IsPreparedOf};
-ghost use Rattle.aud_findings.specs.NamingReplies.{IsFirstReply, replies_at};
-ghost use Rattle.aud_findings.specs.ChainRecords.{turn_record};
-ghost use Rattle.aud_findings.specs.ShowsClient.{ShowsClient};
-ghost use Rattle.aud_findings.specs.ShowsNoLog.{ShowsNoLog};
+ghost use Rattle.aud_findings.specs.Unplaced.{IsFirstReply, ShowsClient, ShowsNoLog, replies_at};
 
-use crate::chain::mark_role;
+use crate::chain::chain_records;
 use crate::prepared::{Prepared, tap_at};
-use crate::replies::numbers_naming;
+use crate::record_at::numbers_naming;
 use aud_rows::{ClientPlaces, Role, Row, Sheet};
-use aud_session_facts::{NodeRecord, TurnMark, node_rows, push_row, push_rows, turn_marks};
+use aud_session_facts::{Misfit, node_rows, push_row, push_rows, turn_marks};
 use std::alloc::{AllocError, Global};
 
 /// The rows of the first reply that names the session, and of the records of nodes that begin or end turns of it. A tap
 /// that wasn't prepared is read.
+#[tactic(auto, using(crate::proofs::ChainRows::never_opened))]
 pub fn no_log_rows<'r>(
     alloc: Global,
     sheet: &Sheet<'r, '_>,
@@ -36,25 +34,12 @@ pub fn no_log_rows<'r>(
 {
     let reply = first_reply(alloc, sheet, prepared, pid)?;
     let marks = turn_marks(alloc, sheet.recording.logs(), pid)?;
-    let records = turn_records(alloc, &marks)?;
+    let records = chain_records(alloc, Misfit::NeverOpened, &marks)?;
     let turns = node_rows(alloc, sheet, &records)?;
     let mut rows = Vec::new(alloc);
     push_row(&mut rows, reply)?;
     push_rows(&mut rows, &turns)?;
     Ok(rows)
-}
-
-/// The records of these marks.
-fn turn_records(alloc: Global, marks: &[TurnMark]) -> Result<Vec<NodeRecord>, AllocError>
-    ensures { IfOk result (λ records. records.items ≡ map turn_record marks.now) }
-{
-    marks
-        .iter()
-        .map(|mark| NodeRecord {
-            place: mark.place,
-            role: mark_role(mark.mark),
-        })
-        .collect(alloc)
 }
 
 /// The row of the first reply that names the session.

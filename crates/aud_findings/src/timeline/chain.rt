@@ -1,13 +1,11 @@
 //! The turns of a session whose records are a chain of turns.
 ghost use Rattle.std.specs.Prelude.{◌≡◌, ◌<◌, IfOk, map};
-ghost use Rattle.std.specs.Option.{option_copied, option_map};
-ghost use Rattle.aud_cert.specs.Certificate.{turn_at};
+ghost use Rattle.std.specs.Option.{option_copied};
 ghost use Rattle.aud_findings.specs.ShownTurn.{turn_seen};
-ghost use Rattle.aud_findings.specs.ChainTurns.{chain_span, end_of, turn_shown, turns_shown};
+ghost use Rattle.aud_findings.specs.ChainTurns.{chain_span, end_of, turns_shown};
 
 use crate::record_at::record_at;
-use crate::timeline::shown::{push_turn, span_shown};
-use crate::timeline::span::{Ends, TurnSpan};
+use crate::timeline::span::{Ends, TurnSpan, push_span};
 use aud_cert::{Turn, turn_place};
 use aud_explanation::{TurnBegin, TurnShown};
 use aud_node::Logs;
@@ -26,22 +24,12 @@ pub fn turns_of_chain<'r>(
     ensures { IfOk result (λ shown. map turn_seen shown.items
         ≡ turns_shown sheet.now.recording.now sheet.now.lines.now turns.now) }
 {
+    let logs = sheet.recording.logs();
     let mut shown = Vec::new(alloc);
     for turn in turns {
-        push_turn(&mut shown, turn_shown(sheet, turn))?;
+        push_span(sheet, &mut shown, chain_span(logs, turn_place(logs, turn)))?;
     }
     Ok(shown)
-}
-
-/// What is shown of the turn.
-fn turn_shown<'r>(sheet: &Sheet<'r, '_>, turn: &Turn<'_>) -> Option<TurnShown<'r>>
-    ensures { option_map turn_seen result
-        ≡ turn_shown sheet.now.recording.now sheet.now.lines.now
-        (turn_at sheet.now.recording.now turn.now) }
-{
-    let logs = sheet.recording.logs();
-    let span = chain_span(logs, turn_place(logs, turn))?;
-    span_shown(sheet, span)
 }
 
 /// The turn by its first record and its last one; none where the first begins no turn.

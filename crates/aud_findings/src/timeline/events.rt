@@ -1,11 +1,10 @@
 //! What happened to the client of a session.
 ghost use Rattle.std.specs.Prelude.{◌≡◌, ◌++◌, IfOk, OnOk};
 ghost use Rattle.std.specs.Option.{option_copied, option_map};
-ghost use Rattle.aud_client.specs.Replies.{is_this};
 ghost use Rattle.aud_node.specs.Stream.{position};
 ghost use Rattle.aud_rows.specs.ClientPlaces.{AreOf};
 ghost use Rattle.aud_rows.specs.Seen.{row_seen, says_seen};
-ghost use Rattle.aud_findings.specs.ClientEvents.{answered, asks_for, client_events, frame_count, frame_events, happens_of, may_be_of, row_events, stay_events};
+ghost use Rattle.aud_findings.specs.ClientEvents.{asks_for, client_events, frame_count, frame_events, happens_of, may_be_of, row_events, stay_events};
 
 use crate::record_at::stay_at;
 use crate::timeline::runs::joined_events;
@@ -129,24 +128,16 @@ fn happens_of(stream: &Stream<'_>, pid: &str, asked: bool, says: Says<'_>) -> Op
                 None => None,
             },
         }),
-        Says::Reply { pid: named, .. } => answered(asked, pid, named),
+        Says::Reply {
+            pid: Some(named),
+            ..
+        } if named == pid => Some(Happens::Reply),
+        Says::Reply { .. } if asked => Some(Happens::Refused),
         Says::Got { position, .. } => Some(Happens::Got {
             from: position,
             to: position,
         }),
         Says::Lost { .. } => Some(Happens::Lost),
-        _ => None,
-    }
-}
-
-/// What the answer to a stay is, which asked for the session or didn't, by the session that it names, if it names one.
-fn answered(asked: bool, pid: &str, named: Option<&str>) -> Option<Happens>
-    ensures { result
-        ≡ answered asked (is_this pid.now (option_map (λ named. named.now) named.entry)) }
-{
-    match named {
-        Some(named) if named == pid => Some(Happens::Reply),
-        _ if asked => Some(Happens::Refused),
         _ => None,
     }
 }

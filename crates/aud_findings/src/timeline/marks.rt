@@ -1,11 +1,9 @@
 //! The turns of a session by the records that begin or end them, whether or not these are a chain of turns.
 ghost use Rattle.std.specs.Prelude.{◌≡◌, ◌<◌, ◌-◌, ◌^◌, IfOk, map};
-ghost use Rattle.std.specs.Option.{option_map};
 ghost use Rattle.aud_findings.specs.ShownTurn.{turn_seen};
-ghost use Rattle.aud_findings.specs.MarkedTurns.{begins_by, end_open, greatest_turn, last_by, last_number, mark_shown, mark_span, marked_turns, next_on, span_from, turn_number};
+ghost use Rattle.aud_findings.specs.MarkedTurns.{begins_by, end_open, greatest_turn, last_by, last_number, mark_span, marked_turns, next_on, span_from, turn_number};
 
-use crate::timeline::shown::{push_turn, span_shown};
-use crate::timeline::span::{Ends, LastRecord, TurnSpan};
+use crate::timeline::span::{Ends, LastRecord, TurnSpan, push_span};
 use aud_explanation::{TurnBegin, TurnShown};
 use aud_node::Logs;
 use aud_rows::Sheet;
@@ -25,27 +23,13 @@ pub fn turns_of_marks<'r>(
         ≡ marked_turns sheet.now.recording.now sheet.now.lines.now marks.now) }
 {
     let greatest = greatest_turn(marks);
+    let logs = sheet.recording.logs();
     let mut shown = Vec::new(alloc);
     for number in 0..marks.len() {
-        push_turn(&mut shown, mark_shown(sheet, greatest, marks, number))?;
+        push_span(sheet, &mut shown, mark_span(logs, greatest, marks, number))?;
     }
     shown.sort_by_key(|turn| turn.turn)?;
     Ok(shown)
-}
-
-/// What is shown of the turn that the mark with this number begins.
-fn mark_shown<'r>(
-    sheet: &Sheet<'r, '_>,
-    greatest: u16,
-    marks: &[TurnMark],
-    number: usize,
-) -> Option<TurnShown<'r>>
-    requires { number < 2 ^ 64 - 1 }
-    ensures { option_map turn_seen result
-        ≡ mark_shown sheet.now.recording.now sheet.now.lines.now greatest marks.now number }
-{
-    let span = mark_span(sheet.recording.logs(), greatest, marks, number)?;
-    span_shown(sheet, span)
 }
 
 /// The turn that the mark with this number begins.

@@ -1,6 +1,6 @@
 //! Events that go on with one another.
 ghost use Rattle.std.specs.Prelude.{◌≡◌, IfOk, OnOk};
-ghost use Rattle.aud_findings.specs.Runs.{extended, joined, joined_events, joined_happens};
+ghost use Rattle.aud_findings.specs.Runs.{extended, joined_events, joined_happens};
 
 use aud_explanation::{ClientEvent, Happens};
 use std::alloc::{AllocError, Global};
@@ -24,9 +24,13 @@ fn extend(events: &mut Vec<ClientEvent>, event: ClientEvent) -> Result<(), Alloc
         events.push(event)?;
         return Ok(());
     };
-    match joined(last, event) {
-        Some(joined) => {
-            events.push(joined)?;
+    match joined_happens(last.last == event.first, last.happens, event.happens) {
+        Some(happens) => {
+            events.push(ClientEvent {
+                first: last.first,
+                last: event.last,
+                happens,
+            })?;
         }
         None => {
             events.push(last)?;
@@ -34,18 +38,6 @@ fn extend(events: &mut Vec<ClientEvent>, event: ClientEvent) -> Result<(), Alloc
         }
     }
     Ok(())
-}
-
-/// The two as one, where the second goes on with the first.
-fn joined(event: ClientEvent, next: ClientEvent) -> Option<ClientEvent>
-    ensures { result ≡ joined event next }
-{
-    let happens = joined_happens(event.last == next.first, event.happens, next.happens)?;
-    Some(ClientEvent {
-        first: event.first,
-        last: next.last,
-        happens,
-    })
 }
 
 /// What happens as one.

@@ -6,7 +6,7 @@ use Rattle.aud_client.specs.declared.stay.Stay.{Stay}
 use Rattle.aud_check.specs.Frames.{frames_in}
 use Rattle.aud_session_facts.specs.Account.{stays_of}
 use Rattle.aud_findings.specs.Also.{AreAllOf, altered_positions, is_another, others_seen}
-use Rattle.aud_findings.proofs.Unaltered.{altered_told}
+use Rattle.aud_findings.proofs.ByAccount.{altered_told}
 use Rattle.aud_findings.proofs.altered.altered_also.Goals as goal
 
 pub returns : goal.returns

@@ -3,7 +3,7 @@ use Rattle.std.specs.List.{AllZip}
 use Rattle.aud_base.specs.Lists.{numbers_from}
 use Rattle.aud_base.proofs.Numbers.{numbers_from-more}
 use Rattle.aud_findings.specs.Prepared.{IsRead}
-use Rattle.aud_findings.specs.Private.Wanted.{IsReadBy}
+use Rattle.aud_findings.specs.Private.ReadTaps.{IsReadBy}
 use Rattle.aud_findings.proofs.Read.{zip_append}
 use Rattle.aud_findings.proofs.prepared.read_taps.Goals as goal
 

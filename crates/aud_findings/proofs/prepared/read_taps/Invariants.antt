@@ -1,6 +1,6 @@
 use Rattle.std.specs.List.{AllZip}
 use Rattle.aud_base.specs.Lists.{numbers_from}
-use Rattle.aud_findings.specs.Private.Wanted.{IsReadBy}
+use Rattle.aud_findings.specs.Private.ReadTaps.{IsReadBy}
 use Rattle.aud_findings.proofs.prepared.read_taps.Given as goal
 
 abbrev pub invariant-loop-place : goal.invariant-loop-place

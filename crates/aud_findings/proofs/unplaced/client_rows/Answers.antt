@@ -1,10 +1,11 @@
-use Rattle.std.proofs.Common.{◌≡◌, ◌∙◌, ◌++◌, ℕ, List, ap, flat_map, get_or, map}
+use Rattle.std.proofs.Common.{◌≡◌, ◌∙◌, ◌++◌, ℕ, List, ap, flat_map, get_or, map, sym}
+use Rattle.std.proofs.lemmas.List.Folds.{flat_map-map}
 use Rattle.std.proofs.lemmas.List.{take_all}
 use Rattle.aud_rows.specs.declared.client_places.ClientPlaces.{ClientPlaces}
 use Rattle.aud_rows.specs.Seen.{RowSeen, row_seen}
 use Rattle.aud_client.specs.Replies.{naming_places}
-use Rattle.aud_findings.specs.NamingReplies.{replies_at, replies_of}
-use Rattle.aud_findings.proofs.Naming.{named_tap, one_more, over_mapped, taps_named}
+use Rattle.aud_findings.specs.Unplaced.{replies_at, replies_of}
+use Rattle.aud_findings.proofs.Naming.{named_tap, one_more, taps_named}
 use Rattle.aud_findings.proofs.unplaced.client_rows.Goals as goal
 
 pub loop-place-preserved : goal.loop-place-preserved
@@ -34,5 +35,5 @@ returns-clause-shown c not_one =
       are_its_rows =
           c.loop-place.invariant.0
           ∙ ap (flat_map rows) (take_all c.loop-place.place-index places c.loop-place-test.false ∙ c.naming-place-items.ensures)
-          ∙ over_mapped (replies_of here s.lines.now) (named_tap here pid) (naming_places here.taps pid);
+          ∙ sym (flat_map-map (replies_of here s.lines.now) (named_tap here pid) (naming_places here.taps pid));
     }

@@ -1,7 +1,7 @@
 use Rattle.std.proofs.Common.{◌≡◌, flat_map, map, take}
 use Rattle.aud_rows.specs.Seen.{row_seen}
 use Rattle.aud_session_facts.specs.RowLists.{AreTrueRows}
-use Rattle.aud_findings.specs.NamingReplies.{replies_of}
+use Rattle.aud_findings.specs.Unplaced.{replies_of}
 use Rattle.aud_findings.proofs.Naming.{named_tap}
 use Rattle.aud_findings.proofs.unplaced.client_rows.Given as goal
 

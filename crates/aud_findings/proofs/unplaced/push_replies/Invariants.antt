@@ -1,7 +1,7 @@
 use Rattle.std.proofs.Common.{◌≡◌, ◌++◌, map, take}
 use Rattle.aud_rows.specs.Seen.{row_seen}
 use Rattle.aud_session_facts.specs.RowLists.{AreTrueRows}
-use Rattle.aud_findings.specs.NamingReplies.{replies_at}
+use Rattle.aud_findings.specs.Unplaced.{replies_at}
 use Rattle.aud_findings.proofs.unplaced.push_replies.Given as goal
 
 -- the rows of the replies so far are added, and all are true where those before are

@@ -2,7 +2,7 @@ use Rattle.std.proofs.Common.{◌∙◌, ap, length, subst}
 use Rattle.std.specs.List.{AllZip}
 use Rattle.aud_base.specs.Lists.{numbers_from}
 use Rattle.aud_node.specs.Cluster.{Cluster}
-use Rattle.aud_findings.specs.Private.Wanted.{AreWanted, IsReadBy}
+use Rattle.aud_findings.specs.Private.ReadTaps.{AreWanted, IsReadBy}
 use Rattle.aud_findings.proofs.Read.{read_all}
 use Rattle.aud_findings.proofs.prepared.Prepared.read.Goals as goal
 

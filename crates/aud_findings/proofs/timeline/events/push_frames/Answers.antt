@@ -2,7 +2,7 @@ use Rattle.std.proofs.Common.{◌≡◌, ◌++◌, ap, ◌∙◌}
 use Rattle.aud_rows.specs.declared.row.Role.TheVariants as role
 use Rattle.aud_rows.specs.StayRows.{frame_row}
 use Rattle.aud_findings.specs.ClientEvents.{asks_for, row_events, stay_asks, stay_row_events}
-use Rattle.aud_findings.proofs.NumberLemmas.{added-more}
+use Rattle.aud_findings.proofs.Numbers.{added-more}
 use Rattle.aud_findings.proofs.timeline.events.push_frames.Goals as goal
 
 pub loop-frame-preserved : goal.loop-frame-preserved

@@ -1,10 +1,13 @@
 use Rattle.std.proofs.Common.{◌≡◌, ℕ, ◌++◌, ap, ◌∙◌, arith, flat_map, length, map, option_to_list, rules, sym}
+use Rattle.std.specs.Option.{option_and_then}
+use Rattle.aud_node.specs.Cluster.{Cluster}
 use Rattle.aud_node.specs.Lists.{numbers_from}
 use Rattle.aud_explanation.specs.declared.turn.TurnShown.{TurnShown}
 use Rattle.aud_findings.specs.InOrder.{in_order}
 use Rattle.aud_findings.specs.ShownTurn.{ShownTurn, turn_seen}
 use Rattle.aud_findings.proofs.OrderLemmas.{in_order-from_sort_by_key, map-in_order}
-use Rattle.aud_findings.specs.MarkedTurns.{greatest_turn, mark_shown}
+use Rattle.aud_findings.specs.MarkedTurns.{greatest_turn, mark_shown, mark_span}
+use Rattle.aud_findings.specs.SpanShown.{span_shown}
 use Rattle.aud_session_facts.proofs.Steps.{given-more}
 use Rattle.aud_findings.proofs.timeline.marks.turns_of_marks.Goals as goal
 
@@ -16,8 +19,9 @@ loop-number-preserved c =
     let number = c.loop-number.number in
     let before = map turn_seen c.loop-number.shown.items in
     let at = λ (number : ℕ). option_to_list (mark_shown cluster lines (greatest_turn marks) marks number) in
-    c.in_ok-push_turn.ensures
-    ∙ ap (λ turn. before ++ option_to_list turn) c.mark_shown.ensures
+    c.in_ok-push_span.ensures
+    ∙ ap (λ span. before ++ option_to_list (option_and_then (span_shown cluster lines) span)) c.mark_span.ensures
+    ∙ ap (λ (k : Cluster). before ++ option_to_list (option_and_then (span_shown cluster lines) (mark_span k c.greatest_turn-greatest.result marks number))) c.logs-logs.ensures
     ∙ ap (λ greatest. before ++ option_to_list (mark_shown cluster lines greatest marks number)) c.greatest_turn-greatest.ensures
     ∙ ap (λ turns. turns ++ at number) c.loop-number.invariant
     ∙ sym (given-more at number)

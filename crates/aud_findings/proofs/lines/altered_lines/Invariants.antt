@@ -1,6 +1,6 @@
 use Rattle.std.proofs.Common.{◌≡◌, ◌++◌, drop, map}
 use Rattle.aud_findings.specs.Also.{altered_frame_lines, altered_lines}
-use Rattle.aud_findings.proofs.altered.altered_lines.Given as goal
+use Rattle.aud_findings.proofs.lines.altered_lines.Given as goal
 
 -- the lines so far, and those of the frames to come, are those of all
 abbrev pub invariant-loop-number : goal.invariant-loop-number

@@ -1,6 +1,6 @@
 use Rattle.std.proofs.Common.{take}
-use Rattle.aud_findings.specs.Private.Wanted.{AreWanted}
-use Rattle.aud_findings.proofs.wanted.wanted_of.Given as goal
+use Rattle.aud_findings.specs.Private.ReadTaps.{AreWanted}
+use Rattle.aud_findings.proofs.prepared.wanted_of.Given as goal
 
 -- the places so far are marked
 abbrev pub invariant-loop-place : goal.invariant-loop-place

@@ -1,7 +1,7 @@
 use Rattle.std.proofs.Common.{sym, ◌∙◌, length}
 use Rattle.aud_findings.specs.Behind.{is_behind_at}
 use Rattle.aud_findings.proofs.Numbers.{found_here, found_later, found_nowhere}
-use Rattle.aud_findings.proofs.behind.first_behind.Goals as goal
+use Rattle.aud_findings.proofs.beside.first_behind.Goals as goal
 
 pub returns-then-is_behind_at : goal.returns-then-is_behind_at
 returns-then-is_behind_at c =

@@ -1,7 +1,7 @@
 use Rattle.std.proofs.Common.{◌≡◌, ◌<◌, ℕ, true}
 use Rattle.aud_node.specs.Cursors.{cursor_at}
 use Rattle.aud_findings.specs.Order.{is_record_in_order}
-use Rattle.aud_findings.proofs.unordered.first_out_of_order.Given as goal
+use Rattle.aud_findings.proofs.order.first_out_of_order.Given as goal
 
 abbrev pub invariant-loop-number : goal.invariant-loop-number
 invariant-loop-number l =

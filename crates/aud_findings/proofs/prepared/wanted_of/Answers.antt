@@ -1,5 +1,5 @@
 use Rattle.aud_findings.proofs.Read.{wanted_more}
-use Rattle.aud_findings.proofs.wanted.wanted_of.Goals as goal
+use Rattle.aud_findings.proofs.prepared.wanted_of.Goals as goal
 
 pub loop-place-preserved : goal.loop-place-preserved
 loop-place-preserved c =

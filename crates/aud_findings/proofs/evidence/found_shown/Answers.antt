@@ -1,7 +1,7 @@
 use Rattle.std.proofs.Common.{map, sym}
 use Rattle.aud_rows.specs.Seen.{row_seen}
 use Rattle.aud_findings.proofs.Shown.{found_told}
-use Rattle.aud_findings.proofs.delivery.found_shown.Goals as goal
+use Rattle.aud_findings.proofs.evidence.found_shown.Goals as goal
 
 pub returns-in_ok-finding_rows-in-Some-clause-shown : goal.returns-in_ok-finding_rows-in-Some-clause-shown
 returns-in_ok-finding_rows-in-Some-clause-shown c pid known =

@@ -1,6 +1,6 @@
 use Rattle.std.proofs.Common.{◌≡◌, ◌++◌, drop}
 use Rattle.aud_findings.specs.Also.{frame_lines}
-use Rattle.aud_findings.proofs.also.frame_lines.Given as goal
+use Rattle.aud_findings.proofs.lines.frame_lines.Given as goal
 
 -- the lines of the frames so far, and of those to come, are those of all
 abbrev pub invariant-loop-frame : goal.invariant-loop-frame

@@ -1,7 +1,10 @@
--- Which taps are asked for.
+-- What is read of taps: which are asked for, and where the packets of a client's tap stand, as they are held.
 use Rattle.std.specs.Prelude.{◌≡◌, ◌<◌, ℕ, Bool, false, List, length, Option, Some, None, nat_eq, slice_get}
 use Rattle.std.specs.List.{list_any}
 use Rattle.aud_node.specs.Cluster.{Cluster}
+use Rattle.aud_rows.specs.declared.client_places.ClientPlaces.{ClientPlaces}
+use Rattle.aud_findings.specs.declared.prepared.HeldTap.{HeldTap}
+use Rattle.aud_findings.specs.declared.prepared.HeldTap.TheVariants.{Kept, Read}
 use Rattle.aud_findings.specs.declared.prepared.PreparedTap.{PreparedTap}
 use Rattle.aud_findings.specs.Prepared.{IsRead}
 
@@ -18,3 +21,7 @@ is_wanted None = false
 -- this is read of the tap at the place, where these are wanted
 abbrev pub IsReadBy : Cluster → List Bool → Bool → ℕ → PreparedTap → Type 0
 IsReadBy c wanted orders place tap = IsRead c (is_wanted (slice_get wanted place)) orders place tap
+
+abbrev pub held_places : HeldTap → ClientPlaces
+held_places (Kept places) = places.now
+held_places (Read places) = places

@@ -1,7 +1,7 @@
 use Rattle.std.proofs.Common.{◌≡◌, drop, map}
 use Rattle.aud_rows.specs.Seen.{row_seen}
 use Rattle.aud_findings.specs.ClientShown.{fault_conn}
-use Rattle.aud_findings.proofs.client.fault_conn.Given as goal
+use Rattle.aud_findings.proofs.outcome.fault_conn.Given as goal
 
 -- at none of the rows so far the fault shows
 abbrev pub invariant-loop-row : goal.invariant-loop-row
