@@ -1,4 +1,4 @@
--- The records that begin and break turns, noted one after the other.
+-- The records that begin, break and end turns, noted one after the other.
 use Rattle.std.proofs.Common.{◌≡◌, ◌<◌, ◌+◌, ◌++◌, ◌||◌, ℕ, Bool, true, false, cond, List, [], ◌∷◌, length, map, set, take, replicate, get_or, nat_eq, nat_lt, Option, Some, None, option_map, slice_get, refl, sym, ap, subst, ◌∙◌, arith, append_assoc, flat_map, zero-add}
 use Rattle.std.specs.List.{find, list_any}
 use Rattle.std.specs.Option.{option_or}
@@ -13,15 +13,19 @@ use Rattle.aud_session_facts.proofs.Steps.{given-more}
 use Rattle.aud_rooms.proofs.Ascending.{length-numbers}
 use Rattle.aud_session_facts.specs.declared.marks.TurnMark.{TurnMark}
 use Rattle.aud_session_facts.specs.declared.place.RecordPlace.{RecordPlace}
-use Rattle.aud_causes.specs.Private.Noting.{begin_at, begin_in, with_begin, break_in, with_break}
+use Rattle.aud_causes.specs.Private.Noting.{begin_at, begin_in, with_begin, break_in}
 use Rattle.aud_causes.specs.Turns.{begin_of, begins_of, begun_turn, breaks_of, broken_turn, ended_by, ends_of, is_broken, is_ended_in, is_turn, turn_count}
 
 -- ---- numbers and lists
 
+-- each of so many is the one that all are
+given_all : {X : Type 0} (count : ℕ) (x : X) (k : ℕ) → k < count → slice_get (replicate count x) k ≡ Some x
+given_all count x k within =
+    slice_get-get_or (replicate count x) k x (subst (λ n. k < n) (sym (length-replicate count x)) within) ∙ ap Some (get_or-replicate count k x x within)
+
 number_at : (count k : ℕ) → k < count → get_or (numbers_from 0 count) k 0 ≡ k
 number_at count k within =
-    let at : slice_get {X = ℕ} (replicate count 0) k ≡ Some 0 =
-    slice_get-get_or (replicate count 0) k 0 (subst (λ n. k < n) (sym (length-replicate count 0)) within) ∙ ap Some (get_or-replicate count k 0 0 within) in
+    let at : slice_get {X = ℕ} (replicate count 0) k ≡ Some 0 = given_all count 0 k within in
     get_or_from_slice_get (numbers_from 0 count) k k 0
     (ap (λ n. slice_get (numbers_from 0 n) k) (sym (length-replicate count 0)) ∙ slice_get-numbers 0 (replicate count 0) k ∙ ap (option_map (λ _. 0 + k)) at ∙ ap Some (zero-add k))
 
@@ -39,6 +43,9 @@ by_number f count xs long each =
 pub record AreBegins (count : ℕ) (seen : List TurnMark) (begins : List (Option RecordPlace)) : Type 0 where
   pub long : length begins ≡ count
   pub each : (k : ℕ) → k < count → slice_get begins k ≡ Some (begin_of seen k)
+
+pub none_begun : (count : ℕ) → AreBegins count [] (replicate count None)
+none_begun count = record { long = length-replicate count None; each = given_all count None }
 
 -- the begin of a turn, after a record that begins it or doesn't
 abbrev noted : Bool → Option RecordPlace → RecordPlace → Option RecordPlace
@@ -109,11 +116,15 @@ begins_more count marks i m d old new within at is were =
 pub begins_are : (marks : List TurnMark) (begins : List (Option RecordPlace)) → AreBegins (turn_count 0 marks) marks begins → begins ≡ begins_of marks
 begins_are marks begins are = by_number (begin_of marks) (turn_count 0 marks) begins are.long are.each
 
--- ---- what is broken
+-- ---- what is noted of turns
 
-pub record AreBroken (count : ℕ) (seen : List TurnMark) (broken : List Bool) : Type 0 where
-  pub long : length broken ≡ count
-  pub each : (k : ℕ) → k < count → slice_get broken k ≡ Some (is_broken seen k)
+-- of each of so many turns it is noted whether the function gives it of one of these
+pub record AreNoted {X : Type 0} (f : X → Option ℕ) (count : ℕ) (seen : List X) (noted : List Bool) : Type 0 where
+  pub long : length noted ≡ count
+  pub each : (k : ℕ) → k < count → slice_get noted k ≡ Some (list_any (λ x. is_turn k (f x)) seen)
+
+pub none_noted : {X : Type 0} (f : X → Option ℕ) (count : ℕ) → AreNoted f count [] (replicate count false)
+none_noted f count = record { long = length-replicate count false; each = given_all count false }
 
 or_false : (b : Bool) → b ≡ (b || false)
 or_false true = refl
@@ -123,10 +134,12 @@ or_true : (b : Bool) → true ≡ (b || true)
 or_true true = refl
 or_true false = refl
 
-break_more : (seen : List TurnMark) (m : TurnMark) (k : ℕ) → is_broken (seen ++ m ∷ []) k ≡ (is_broken seen k || is_turn k (broken_turn m.mark))
-break_more seen m k =
-    list_any-append (λ (n : TurnMark). is_turn k (broken_turn n.mark)) seen (m ∷ [])
-    ∙ ap (λ b. is_broken seen k || b) (sym (or_false (is_turn k (broken_turn m.mark))))
+-- it holds of one of these with one more, or of that
+any_with : {X : Type 0} (p : X → Bool) (xs : List X) (x : X) → list_any p (xs ++ x ∷ []) ≡ (list_any p xs || p x)
+any_with p xs x = list_any-append p xs (x ∷ []) ∙ ap (λ b. list_any p xs || b) (sym (or_false (p x)))
+
+pub any-more : (p : ℕ → Bool) (i : ℕ) → list_any p (numbers_from 0 (i + 1)) ≡ (list_any p (numbers_from 0 i) || p i)
+any-more p i = ap (list_any p) (numbers_from-more i) ∙ any_with p (numbers_from 0 i) i
 
 break_in_more : (t : Option ℕ) (b : Bool) (k : ℕ) (broken : List Bool) → k < length broken → slice_get broken k ≡ Some b
     → slice_get (break_in t broken) k ≡ Some (b || is_turn k t)
@@ -149,50 +162,39 @@ length-break_in (Some turn) broken = go (nat_lt turn (length broken))
     go true = length-set broken turn true
     go false = refl
 
--- one record more
-pub broken_more : (count : ℕ) (marks : List TurnMark) (i : ℕ) (m d : TurnMark) (old new : List Bool) → i < length marks → m ≡ get_or marks i d
-    → new ≡ with_break m old → AreBroken count (take i marks) old → AreBroken count (take (i + 1) marks) new
-broken_more count marks i m d old new within at is were =
-    subst (λ (p : List TurnMark × List Bool). AreBroken count p.0 p.1) (λ j. (sym more j, sym is j))
+noted_more : {X : Type 0} (f : X → Option ℕ) (count : ℕ) (seen : List X) (x : X) (old new : List Bool)
+    → new ≡ break_in (f x) old → AreNoted f count seen old → AreNoted f count (seen ++ x ∷ []) new
+noted_more f count seen x old new is were =
+    subst (AreNoted f count (seen ++ x ∷ [])) (sym is)
     (record {
-      long = length-break_in (broken_turn m.mark) old ∙ were.long;
+      long = length-break_in (f x) old ∙ were.long;
       each = λ k h.
-          break_in_more (broken_turn m.mark) (is_broken (take i marks) k) k old (subst (λ n. k < n) (sym were.long) h) (were.each k h) ∙ ap Some (sym (break_more (take i marks) m k));
+          break_in_more (f x) (list_any (λ y. is_turn k (f y)) seen) k old (subst (λ n. k < n) (sym were.long) h) (were.each k h)
+          ∙ ap Some (sym (any_with (λ y. is_turn k (f y)) seen x));
     })
-  where
-    more : take (i + 1) marks ≡ take i marks ++ m ∷ []
-    more = take_more marks i d within ∙ ap (λ x. take i marks ++ x ∷ []) (sym at)
 
--- those of all
-pub broken_are : (marks : List TurnMark) (broken : List Bool) → AreBroken (turn_count 0 marks) marks broken → broken ≡ breaks_of marks
+-- what is broken: one record more, and those of all
+abbrev pub breaks : TurnMark → Option ℕ
+breaks m = broken_turn m.mark
+
+pub broken_more : (count : ℕ) (marks : List TurnMark) (i : ℕ) (m d : TurnMark) (old new : List Bool) → i < length marks → m ≡ get_or marks i d
+    → new ≡ break_in (breaks m) old → AreNoted breaks count (take i marks) old → AreNoted breaks count (take (i + 1) marks) new
+broken_more count marks i m d old new within at is were =
+    subst (λ seen. AreNoted breaks count seen new) (sym (take_more marks i d within ∙ ap (λ x. take i marks ++ x ∷ []) (sym at)))
+    (noted_more breaks count (take i marks) m old new is were)
+
+pub broken_are : (marks : List TurnMark) (broken : List Bool) → AreNoted breaks (turn_count 0 marks) marks broken → broken ≡ breaks_of marks
 broken_are marks broken are = by_number (is_broken marks) (turn_count 0 marks) broken are.long are.each
 
--- ---- what is ended
-
-pub record AreEnded (count : ℕ) (marks : List TurnMark) (seen : ℕ) (ended : List Bool) : Type 0 where
-  pub long : length ended ≡ count
-  pub each : (k : ℕ) → k < count → slice_get ended k ≡ Some (list_any (λ number. is_turn k (ended_by marks number)) (numbers_from 0 seen))
-
--- it holds of one of the numbers with one more, or of that
-pub any-more : (p : ℕ → Bool) (i : ℕ) → list_any p (numbers_from 0 (i + 1)) ≡ (list_any p (numbers_from 0 i) || p i)
-any-more p i =
-    ap (list_any p) (numbers_from-more i)
-    ∙ list_any-append p (numbers_from 0 i) (i ∷ [])
-    ∙ ap (λ b. list_any p (numbers_from 0 i) || b) (sym (or_false (p i)))
-
--- one record more
-pub ended_more : (count : ℕ) (marks : List TurnMark) (i : ℕ) (old new : List Bool) → new ≡ break_in (ended_by marks i) old → AreEnded count marks i old → AreEnded count marks (i + 1) new
+-- what is ended, by the numbers of the records
+pub ended_more : (count : ℕ) (marks : List TurnMark) (i : ℕ) (old new : List Bool) → new ≡ break_in (ended_by marks i) old
+    → AreNoted (ended_by marks) count (numbers_from 0 i) old → AreNoted (ended_by marks) count (numbers_from 0 (i + 1)) new
 ended_more count marks i old new is were =
-    subst (AreEnded count marks (i + 1)) (sym is)
-    (record {
-      long = length-break_in (ended_by marks i) old ∙ were.long;
-      each = λ k h.
-          break_in_more (ended_by marks i) (list_any (λ number. is_turn k (ended_by marks number)) (numbers_from 0 i)) k old (subst (λ n. k < n) (sym were.long) h) (were.each k h)
-          ∙ ap Some (sym (any-more (λ number. is_turn k (ended_by marks number)) i));
-    })
+    subst (λ seen. AreNoted (ended_by marks) count seen new) (sym (numbers_from-more i))
+    (noted_more (ended_by marks) count (numbers_from 0 i) i old new is were)
 
--- those of all
-pub ended_are : (marks : List TurnMark) (i : ℕ) (ended : List Bool) → i ≡ length marks → AreEnded (turn_count 0 marks) marks i ended → ended ≡ ends_of marks
+pub ended_are : (marks : List TurnMark) (i : ℕ) (ended : List Bool) → i ≡ length marks → AreNoted (ended_by marks) (turn_count 0 marks) (numbers_from 0 i) ended
+    → ended ≡ ends_of marks
 ended_are marks i ended all are =
     by_number (is_ended_in marks) (turn_count 0 marks) ended are.long
     (λ k h. are.each k h ∙ ap (λ n. Some (list_any (λ number. is_turn k (ended_by marks number)) (numbers_from 0 n))) all)

@@ -1,8 +1,8 @@
 -- A replay by the rooms that the session held at the break.
-use Rattle.std.specs.Prelude.{ℕ, Bool, ◌&&◌, List, [], find, map, take, Option, Some, None, nat_eq, nat_lt, slice_get}
+use Rattle.std.specs.Prelude.{ℕ, Bool, ◌&&◌, List, [], map, take, Option, Some, None, nat_eq, slice_get}
 use Rattle.std.specs.Cmp.Lexicographic.{pointwise}
 use Rattle.std.specs.List.{filter}
-use Rattle.std.specs.Option.{option_and_then, option_map}
+use Rattle.std.specs.Option.{option_and_then}
 use Rattle.aud_node.specs.Cluster.{Cluster}
 use Rattle.aud_client.specs.StaySeen.{StaySeen, FrameSeen}
 use Rattle.aud_rooms.specs.Turns.{Who, Turn}
@@ -35,22 +35,3 @@ rooms_at_break c who turns stays f =
     (λ (replay : Replay).
     cause_if (is_replayed replay f.parted.position && is_by_rooms_at_break c who turns stays f.later replay) (RoomsAtBreak f.later replay.after replay.low))
     f.replay
-
--- ---- past the replay
-
--- the position of the first of the frames that is past this one
-abbrev pub first_past : ℕ → List FrameSeen → Option ℕ
-first_past low frames = option_map (λ (frame : FrameSeen). frame.position) (find (λ (frame : FrameSeen). nat_lt low frame.position) frames)
-
--- the same in a stay, if there is one
-abbrev pub first_past_in : ℕ → Option StaySeen → Option ℕ
-first_past_in low None = None
-first_past_in low (Some stay) = first_past low stay.frames
-
--- the position of the first frame in the later stay, if there is one
-abbrev pub first_came : List StaySeen → Facts → Option ℕ
-first_came stays f = option_and_then (λ (stay : StaySeen). option_map (λ (frame : FrameSeen). frame.position) (slice_get stay.frames 0)) (slice_get stays f.later)
-
--- the first position that came in the later stay past what was to be replayed
-abbrev pub first_taken : List StaySeen → Facts → Option ℕ
-first_taken stays f = option_and_then (λ (replay : Replay). first_past_in replay.low (slice_get stays f.later)) f.replay

@@ -27,18 +27,13 @@ is_packet (Some (Conn c)) = false
 is_packet (Some Lost) = false
 is_packet (Some _) = true
 
--- the first of these records begins a connection, and no packet follows it: the connection is lost, or another begins, or
--- the tap ends there
-abbrev pub begins_bare : List ClientRec → Bool
-begins_bare recs = begins_connection (slice_get recs 0) && not (is_packet (slice_get recs 1))
-
 -- ---- the tap
 
--- these are a client's, and so
+-- these are a client's, and the first begins a connection that no packet follows: it is lost, or another begins, or the
+-- tap ends there
 abbrev pub are_bare : Records → Bool
-are_bare (records.Stream recs) = false
-are_bare (records.Node recs) = false
-are_bare (records.Client recs) = begins_bare recs
+are_bare (records.Client recs) = begins_connection (slice_get recs 0) && not (is_packet (slice_get recs 1))
+are_bare _ = false
 
 -- the tap is a client's, and its first connection has no packet
 abbrev pub is_bare : Tap → Bool
@@ -48,12 +43,9 @@ is_bare tap = are_bare tap.records
 abbrev pub bare_place : List Tap → Option ℕ
 bare_place taps = position is_bare taps
 
-abbrev pub first_bare : List Tap → Option Cause
-first_bare taps = option_map ClientTapHasNoPackets (bare_place taps)
-
 -- ---- the cause
 
 -- the session has one turn, so that its client had one connection; and a client's tap has one whose packets it doesn't
 -- have: the first such tap
 abbrev pub tap_without_packets : Cluster → Text → Option Cause
-tap_without_packets c pid = if nat_eq (turn_count 0 (turn_marks c pid)) 1 then first_bare c.taps else None
+tap_without_packets c pid = if nat_eq (turn_count 0 (turn_marks c pid)) 1 then option_map ClientTapHasNoPackets (bare_place c.taps) else None

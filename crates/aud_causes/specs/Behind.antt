@@ -20,12 +20,10 @@ last_of c t = record { node = (turn_at c t).node; number = (turn_at c t).to - 1 
 abbrev pub behind : Cluster → TurnSeen → TurnSeen → Cause
 behind c t before = NodeBehindBreak (last_of c before) (first_of c t) before.high t.low
 
--- those of the last turn that had reached the position before the one with this number, where that began before the
--- position, and of that one
-abbrev pub behind_at : Cluster → List TurnSeen → ℕ → ℕ → Option Cause
-behind_at c turns p number = option_and_then (λ t. option_map (behind c t) (ahead_of p turns number)) (slice_get turns number)
-
 -- the two frames stand in two stays, these match the turns, and the turn of the later one begins before the entry, which
 -- a turn before it had reached
 abbrev pub node_behind : Cluster → List TurnSeen → Facts → Option Cause
-node_behind c turns f = if f.matched && nat_lt f.earlier f.later then behind_at c turns f.parted.position f.later else None
+node_behind c turns f =
+    if f.matched && nat_lt f.earlier f.later
+    then option_and_then (λ t. option_map (behind c t) (ahead_of f.parted.position turns f.later)) (slice_get turns f.later)
+    else None

@@ -1,5 +1,5 @@
 -- What came twice because a body of polling did.
-use Rattle.std.specs.Prelude.{ℕ, ◌-◌, Bool, true, false, not, ◌&&◌, List, [], ◌∷◌, length, Option, Some, None, is_some, if◌then◌else◌, nat_eq, nat_lt, slice_get, take}
+use Rattle.std.specs.Prelude.{ℕ, ◌-◌, true, false, not, ◌&&◌, List, [], ◌∷◌, length, Option, Some, None, if◌then◌else◌, nat_eq, nat_lt, slice_get, take}
 use Rattle.std.specs.Option.{option_and_then, option_or}
 use Rattle.std.specs.Str.{bytes_eq}
 use Rattle.aud_tap.specs.declared.records.ClientRec.{ClientRec}
@@ -36,13 +36,12 @@ places_at c client = places_told (transcript_at c client)
 abbrev pub client_record : Cluster → ℕ → ℕ → Option ClientRec
 client_record c client number = option_and_then (λ (recs : List ClientRec). slice_get recs number) (client_at c client)
 
--- the record of the frame that stands there
-abbrev pub record_there : List PlacesSeen → FramePlace → Option ℕ
-record_there places at = slice_get (frames_there (slice_get places at.stay)) at.frame
-
 -- the record of a session's frame, where these are the numbers of its stays in the client's tap at this place
 abbrev pub record_of : Cluster → ℕ → List ℕ → ℕ → Option ℕ
-record_of c client numbers frame = option_and_then (record_there (places_at c client)) (frame_at (stays_at c client) numbers frame)
+record_of c client numbers frame =
+    option_and_then
+    (λ (at : FramePlace). slice_get (frames_there (slice_get (places_at c client) at.stay)) at.frame)
+    (frame_at (stays_at c client) numbers frame)
 
 -- the last of these
 abbrev pub last_of : List ℕ → Option ℕ
@@ -63,37 +62,29 @@ body_at c client number = body_in (client_record c client number)
     body_in (Some (Poll t)) = Some t
     body_in _ = None
 
--- both records of the client's tap at this place are one, which is a body of polling
-abbrev pub is_one_body : Cluster → ℕ → Option ℕ → Option ℕ → Bool
-is_one_body c client (Some first) (Some last) = nat_eq first last && is_some (body_at c client first)
-is_one_body c client _ _ = false
+-- the two frames stand in one stay, and the record of the other is another body of polling of the same text as this one
+abbrev pub equal_body : Cluster → ℕ → List ℕ → Facts → ℕ → Text → Option Cause
+equal_body c client numbers f number body =
+    option_and_then
+    (λ other.
+    option_and_then
+    (λ text. cause_if (not (nat_eq number other) && bytes_eq body text) (BodyCameTwice f.parted.first f.parted.again true))
+    (body_at c client other))
+    (record_of c client numbers f.parted.again)
 
--- both are there, and are the same
-abbrev pub are_same : Option Text → Option Text → Bool
-are_same (Some first) (Some again) = bytes_eq first again
-are_same _ _ = false
+-- they stand in two; and what came of the session from the first one on, up to the later stay, came in this body of polling
+abbrev pub one_body : Cluster → ℕ → List ℕ → Facts → ℕ → Option Cause
+one_body c client numbers f number =
+    option_and_then
+    (λ last. cause_if (nat_lt f.earlier f.later && nat_eq number last) (BodyCameTwice f.parted.first f.parted.again false))
+    (last_record (places_at c client) None (take f.later numbers))
 
--- these are two records of the client's tap at this place, which are bodies of polling of the same text
-abbrev pub are_equal_bodies : Cluster → ℕ → Option ℕ → Option ℕ → Bool
-are_equal_bodies c client (Some first) (Some again) = not (nat_eq first again) && are_same (body_at c client first) (body_at c client again)
-are_equal_bodies c client _ _ = false
-
--- the two frames came in two bodies of polling of the same text
-abbrev pub equal_bodies : Cluster → ℕ → List ℕ → Facts → Option Cause
-equal_bodies c client numbers f =
-    cause_if
-    (are_equal_bodies c client (record_of c client numbers f.parted.first) (record_of c client numbers f.parted.again))
-    (BodyCameTwice f.parted.first f.parted.again true)
-
--- the two frames stand in two stays; and what came of the session from the first one on, up to the later stay, came in
--- one body of polling
-abbrev pub body_before : Cluster → ℕ → List ℕ → Facts → Option Cause
-body_before c client numbers f =
-    cause_if
-    (nat_lt f.earlier f.later
-    && is_one_body c client (record_of c client numbers f.parted.first) (last_record (places_at c client) None (take f.later numbers)))
-    (BodyCameTwice f.parted.first f.parted.again false)
-
--- of two frames of one stay, or of two
+-- the first frame came in a body of polling, of which one of these is so
 abbrev pub body_twice : Cluster → ℕ → List ℕ → Facts → Option Cause
-body_twice c client numbers f = if nat_eq f.earlier f.later then equal_bodies c client numbers f else body_before c client numbers f
+body_twice c client numbers f =
+    option_and_then
+    (λ number.
+    option_and_then
+    (λ body. if nat_eq f.earlier f.later then equal_body c client numbers f number body else one_body c client numbers f number)
+    (body_at c client number))
+    (record_of c client numbers f.parted.first)

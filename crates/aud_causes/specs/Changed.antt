@@ -3,7 +3,6 @@ use Rattle.std.specs.Prelude.{ℕ, ◌-◌, Bool, true, false, not, ◌&&◌, �
 use Rattle.std.specs.Cmp.Lexicographic.{pointwise}
 use Rattle.std.specs.List.{filter, list_any}
 use Rattle.std.specs.Str.{bytes_eq}
-use Rattle.aud_tap.specs.declared.records.StreamRec.{StreamRec}
 use Rattle.aud_node.specs.Cluster.{Cluster}
 use Rattle.aud_node.specs.Stream.{Text}
 use Rattle.aud_rooms.specs.Spans.{RoomSpan, due_by_spans}
@@ -47,10 +46,6 @@ abbrev pub namespace_in : Option (Text × Text × ℕ) → Text
 namespace_in None = []
 namespace_in (Some opened) = opened.1
 
--- what came in the stretch, in the order in which it came, is what was due there by these spans
-abbrev pub is_as_due : List StreamRec → Text → List RoomSpan → Stretch → List ℕ → Bool
-is_as_due stream nsp spans s came = pointwise nat_eq (filter (is_within s) came) (due_by_spans spans stream nsp (s.first - 1) s.last)
-
 -- ---- the change
 
 -- where the session of these turns and spans joined the room, or left it, just before it reached the position, and no log
@@ -58,10 +53,9 @@ is_as_due stream nsp spans s came = pointwise nat_eq (filter (is_within s) came)
 -- then came, once and in its place, and no other did
 abbrev pub fits_with : Cluster → Text → List TurnSeen → List RoomSpan → List ℕ → Bool → ℕ → Text → Bool
 fits_with c pid turns spans came joined p room =
-    is_as_due c.stream (namespace_in (opened_in turns))
-    (spans_with spans room joined (stretch_of c pid turns came room p))
-    (stretch_of c pid turns came room p)
-    came
+    let s = stretch_of c pid turns came room p in
+    let due = due_by_spans (spans_with spans room joined s) c.stream (namespace_in (opened_in turns)) (s.first - 1) s.last in
+    pointwise nat_eq (filter (is_within s) came) due
 
 -- so it is of one of these rooms
 abbrev pub fits_with_any : Cluster → Text → List TurnSeen → List RoomSpan → List ℕ → Bool → ℕ → List Text → Bool

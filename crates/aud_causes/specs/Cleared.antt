@@ -49,10 +49,6 @@ first_cleared log node broke (number ∷ numbers) =
 abbrev pub cleared_on : Cluster → Text → ℕ → Option Cause
 cleared_on c pid node = option_and_then (λ (tap : NodeTap). first_cleared tap.recs node None (own_numbers tap.recs pid)) (node_at c node)
 
--- that on each of these nodes that has one
-abbrev pub cleared_in : Cluster → Text → List ℕ → List Cause
-cleared_in c pid nodes = flat_map (λ node. option_to_list (cleared_on c pid node)) nodes
-
--- that on each node
+-- that on each node that has one
 abbrev pub cleared_after_break : Cluster → Text → List Cause
-cleared_after_break c pid = cleared_in c pid (own_places c pid)
+cleared_after_break c pid = flat_map (λ node. option_to_list (cleared_on c pid node)) (own_places c pid)

@@ -6,7 +6,7 @@ use Rattle.std.specs.Str.{bytes_eq}
 use Rattle.serde_json.specs.Data.{Data, Items, no_items, item}
 use Rattle.serde_json.specs.Find.{as_array}
 use Rattle.serde_json.specs.View.{view}
-use Rattle.aud_sio.specs.Packet.{PacketSeen, packet_of}
+use Rattle.aud_sio.specs.Packet.{packet_of}
 use Rattle.aud_tap.specs.declared.records.Event.{Event}
 use Rattle.aud_tap.specs.declared.records.StreamRec.{StreamRec}
 use Rattle.aud_tap.specs.declared.records.StreamRec.TheVariants.{Ev}
@@ -33,13 +33,13 @@ pub record SaidSeen : Type 0 where
 abbrev pub said_view : Said → SaidSeen
 said_view said = record { nsp = said.nsp.now; value = view said.value }
 
--- what a packet says
-abbrev pub said_by : PacketSeen → Option SaidSeen
-said_by packet = option_map (λ value. record { nsp = packet.nsp; value = value }) (value_of packet.payload)
-
 -- what the text of an event says
 abbrev pub said_in : Text → Option SaidSeen
-said_in text = elim (packet_of text) [ Ok packet ↦ said_by packet | Err fault ↦ None ]
+said_in text =
+    elim (packet_of text) [
+      | Ok packet ↦ option_map (λ value. record { nsp = packet.nsp; value = value }) (value_of packet.payload)
+      | Err fault ↦ None
+    ]
 
 -- both are read, and this holds of them
 abbrev pub of_both : (SaidSeen → SaidSeen → Bool) → Option SaidSeen → Option SaidSeen → Bool
@@ -105,31 +105,17 @@ are_same_in_any_order bin others = nat_eq (length bin) (length others) && list_a
 abbrev pub says_the_entry : FrameSeen → Event → Bool
 says_the_entry frame event = of_both says_same (said_in frame.text) (said_in event.text)
 
--- so it does, and its attachments are the entry's: only its text was written by another encoder
-abbrev pub is_by_another_encoder : FrameSeen → Event → Bool
-is_by_another_encoder frame event = says_the_entry frame event && are_same frame.bin event.bin
-
--- it says what its entry says, and its attachments are the entry's in another order
-abbrev pub is_reordered : FrameSeen → Event → Bool
-is_reordered frame event = says_the_entry frame event && not (are_same frame.bin event.bin) && are_same_in_any_order frame.bin event.bin
-
--- it has another name than its entry, or another number of arguments, or is of another namespace: an event of the
--- application's own
-abbrev pub is_another_event : FrameSeen → Event → Bool
-is_another_event frame event = of_both is_other_event (said_in frame.text) (said_in event.text)
-
--- it doesn't say what its entry says, or its attachments aren't the entry's in any order: something altered it
-abbrev pub is_altered : FrameSeen → Event → Bool
-is_altered frame event = not (says_the_entry frame event && are_same_in_any_order frame.bin event.bin)
-
--- those that hold of this frame, which parts from this entry so
+-- those that hold of this frame, which parts from this entry so: it says what its entry says, and its attachments are the
+-- entry's, so that only its text was written by another encoder; or they are the entry's in another order; it doesn't say
+-- that, or its attachments aren't the entry's in any order, so that something altered it; it has another name than its
+-- entry, or another number of arguments, or is of another namespace: an event of the application's own
 abbrev pub event_causes : FrameSeen → Event → AlteredFrame → List Cause
 event_causes frame event altered =
     held
-    (cause_if (is_by_another_encoder frame event) (AnotherEncoder altered.frame altered.part)
-    ∷ cause_if (is_reordered frame event) (AttachmentsReordered altered.frame)
-    ∷ cause_if (is_altered frame event) (Altered altered.frame altered.part)
-    ∷ cause_if (is_another_event frame event) (AnotherEvent altered.frame) ∷ [])
+    (cause_if (says_the_entry frame event && are_same frame.bin event.bin) (AnotherEncoder altered.frame altered.part)
+    ∷ cause_if (says_the_entry frame event && not (are_same frame.bin event.bin) && are_same_in_any_order frame.bin event.bin) (AttachmentsReordered altered.frame)
+    ∷ cause_if (not (says_the_entry frame event && are_same_in_any_order frame.bin event.bin)) (Altered altered.frame altered.part)
+    ∷ cause_if (of_both is_other_event (said_in frame.text) (said_in event.text)) (AnotherEvent altered.frame) ∷ [])
 
 -- the same where there is such a frame and its entry is an event; else it is altered
 abbrev pub causes_against : Option FrameSeen → Option StreamRec → AlteredFrame → List Cause

@@ -25,11 +25,7 @@ chars_around at place (c ∷ cs) =
 unfoldable pub around : ℕ → ℕ → List ℕ → List ℕ
 around at place text = chars_around at place (chars text)
 
--- two points for what is left out in front
-abbrev pub left_out : ℕ → List ℕ
-left_out from = if nat_lt 0 from then points else []
-
 -- the characters of the text that begin in the 24 bytes in front of this byte, and in the 24 bytes from it on; two
 -- points stand for what is left out at either end
 abbrev pub excerpt : List ℕ → ℕ → List ℕ
-excerpt text at = left_out (at - near) ++ around at 0 text
+excerpt text at = (if nat_lt 0 (at - near) then points else []) ++ around at 0 text

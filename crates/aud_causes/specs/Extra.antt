@@ -1,7 +1,6 @@
 -- Why an event came that was not due, by the reason for which it wasn't.
 use Rattle.std.specs.Prelude.{ℕ, ◌-◌, Bool, true, false, not, ◌&&◌, List, [], ◌∷◌, length, Option, Some, None, if◌then◌else◌, slice_get}
-use Rattle.std.specs.Option.{option_map, option_and_then, option_or}
-use Rattle.aud_tap.specs.declared.records.NodeRec.{NodeRec}
+use Rattle.std.specs.Option.{option_map, option_map_or, option_and_then, option_or}
 use Rattle.aud_tap.specs.declared.records.StreamRec.{StreamRec}
 use Rattle.aud_tap.specs.declared.records.StreamRec.TheVariants.{Ev}
 use Rattle.aud_node.specs.Cluster.{Cluster}
@@ -28,14 +27,9 @@ use Rattle.aud_causes.specs.Delivery.{cause_if, is_outside}
 
 -- ---- the log that ends early
 
--- there is a record, and it is a `break` or the `gone` of the session
-abbrev pub ends_turn : Text → Option NodeRec → Bool
-ends_turn pid None = false
-ends_turn pid (Some rec) = ends_any_turn pid rec
-
--- the turn's last record is none of these: the log ends in the turn
+-- the turn's last record is no `break` and no `gone` of the session: the log ends in the turn
 abbrev pub goes_on : Text → TurnSeen → Bool
-goes_on pid t = not (ends_turn pid (slice_get t.recs (length t.recs - 1)))
+goes_on pid t = not (option_map_or (ends_any_turn pid) (slice_get t.recs (length t.recs - 1)) false)
 
 -- the last of the turns
 abbrev pub last_turn : List TurnSeen → Option TurnSeen
@@ -82,14 +76,11 @@ reached_at c turns p =
 abbrev pub leave_of : RoomChange → Option RecordPlace
 leave_of change = if change.joined then None else Some (record { node = change.node; number = change.number })
 
--- the last record, before the reach, by which the session changed the room, if it left it there
-abbrev pub left_before : Cluster → Text → List Turn → Reach → Text → Option RecordPlace
-left_before c pid turns reach room = option_and_then leave_of (last_change_before c pid room turns reach)
-
--- the same of the first of these rooms of which there is one
+-- the last record, before the reach, by which the session changed the first of these rooms that it had left there
 abbrev pub first_left : Cluster → Text → List Turn → Reach → List Text → Option RecordPlace
 first_left c pid turns reach [] = None
-first_left c pid turns reach (room ∷ rooms) = option_or (left_before c pid turns reach room) (first_left c pid turns reach rooms)
+first_left c pid turns reach (room ∷ rooms) =
+    option_or (option_and_then leave_of (last_change_before c pid room turns reach)) (first_left c pid turns reach rooms)
 
 -- the rooms that the entry is for, if it is an event
 abbrev pub rooms_named : Option StreamRec → List Text

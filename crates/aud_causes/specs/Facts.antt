@@ -45,16 +45,16 @@ replay_of matched turns number asked =
 -- the facts of a difference, where these are the session's turns and the stays whose reply names it
 abbrev pub facts_of : List StreamRec → List TurnSeen → List StaySeen → Difference → Facts
 facts_of stream turns stays difference =
-    facts_at stream turns stays (stays_match stream turns stays) (parted_at difference) (earlier_stay stays difference) (stay_of_frame stays 0 (parted_at difference).again)
-  where
-    facts_at : List StreamRec → List TurnSeen → List StaySeen → Bool → Parted → ℕ → ℕ → Facts
-    facts_at stream turns stays matched parted earlier later =
-        record {
-          parted = parted;
-          matched = matched;
-          earlier = earlier;
-          later = later;
-          recovered = is_recovery (slice_get stays later);
-          asked = asked_after stream (slice_get stays later);
-          replay = replay_of matched turns later (asked_after stream (slice_get stays later));
-        }
+    let parted = parted_at difference in
+    let matched = stays_match stream turns stays in
+    let later = stay_of_frame stays 0 parted.again in
+    let asked = asked_after stream (slice_get stays later) in
+    record {
+      parted = parted;
+      matched = matched;
+      earlier = earlier_stay stays difference;
+      later = later;
+      recovered = is_recovery (slice_get stays later);
+      asked = asked;
+      replay = replay_of matched turns later asked;
+    }

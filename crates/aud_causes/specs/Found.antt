@@ -6,8 +6,9 @@ use Rattle.aud_input.specs.TapLines.{TapLines}
 use Rattle.aud_explanation.specs.declared.cause.CauseState.{CauseState}
 use Rattle.aud_causes.specs.declared.cause.Cause.{Cause}
 use Rattle.aud_causes.specs.declared.found.CauseFound.{CauseFound}
+use Rattle.aud_causes.specs.Filled.{figure_text, filled}
 use Rattle.aud_causes.specs.Table.{row_of}
-use Rattle.aud_causes.specs.Words.{id_text, why_text}
+use Rattle.aud_causes.specs.Words.{id_text}
 use Rattle.aud_causes.specs.Records.{lines_at}
 use Rattle.aud_causes.specs.State.{state_of}
 use Rattle.aud_causes.specs.Texts.{texts_told}
@@ -24,10 +25,6 @@ pub record CauseSeen : Type 0 where
 abbrev pub cause_seen : CauseFound → CauseSeen
 cause_seen f = record { id = f.id.now; state = f.state; lines = f.lines.items; why = string_bytes f.why; todo = f.todo.now }
 
--- what happened, and both texts where they part
-abbrev pub why_told : Cluster → Option ℕ → List ℕ → Cause → Text
-why_told c client numbers cause = why_text c cause ++ texts_told c client numbers cause
-
 -- what is told of this cause, where these are the lines of the input, this is the place of the session's client's tap,
 -- if there is one, and these are the numbers of its stays there
 abbrev pub shown_cause : Cluster → List TapLines → Option ℕ → List ℕ → CauseState → Cause → CauseSeen
@@ -36,7 +33,7 @@ shown_cause c lines client numbers state cause =
       id = id_text cause;
       state = state;
       lines = lines_at c lines client numbers (row_of cause).records;
-      why = why_told c client numbers cause;
+      why = filled (row_of cause).why (map (figure_text c) (row_of cause).figures) ++ texts_told c client numbers cause;
       todo = (row_of cause).todo;
     }
 

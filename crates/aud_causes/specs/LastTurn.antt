@@ -13,10 +13,7 @@ last_turn marks = turn_count 0 marks - 1
 abbrev pub last_begin : List TurnMark → Option RecordPlace
 last_begin marks = begin_of marks (last_turn marks)
 
--- it stands after this record in the same log, and ends a turn
-abbrev pub ends_after : RecordPlace → TurnMark → Bool
-ends_after begin m = nat_eq m.place.node begin.node && nat_lt begin.number m.place.number && is_end m.mark
-
 -- after this record one in the same log ends a turn
 abbrev pub is_ended : List TurnMark → RecordPlace → Bool
-is_ended marks begin = list_any (ends_after begin) marks
+is_ended marks begin =
+    list_any (λ (m : TurnMark). nat_eq m.place.node begin.node && nat_lt begin.number m.place.number && is_end m.mark) marks

@@ -23,13 +23,11 @@ abbrev pub own_room : Option (Text × Text × ℕ) → Text
 own_room None = []
 own_room (Some opened) = opened.0
 
--- the entry, which is for these rooms, was left out while the client was connected; the session of these turns and spans
--- can leave each of them; and what came from the entry on is what was due if it had left one of them before
-abbrev pub is_left_by : Cluster → Text → List TurnSeen → List RoomSpan → List ℕ → Facts → List Text → Bool
-is_left_by c pid turns spans came f rooms =
-    is_taken_live f && are_leavable (own_room (opened_in turns)) rooms && fits_with_any c pid turns spans came false f.parted.position rooms
-
--- a `leave` of a session of these turns and spans is missing, where these are the positions of all that came
+-- a `leave` is missing: the entry was left out while the client was connected; the session of these turns and spans can
+-- leave each room that it is for; and what came from it on is what was due if the session had left one of them before, where
+-- these are the positions of all that came
 abbrev pub leave_missing : Cluster → Text → List TurnSeen → List RoomSpan → List ℕ → Facts → Option Cause
 leave_missing c pid turns spans came f =
-    cause_if (is_left_by c pid turns spans came f (rooms_named (entry c.stream f.parted.position))) (LeaveMissing f.parted.again)
+    let rooms = rooms_named (entry c.stream f.parted.position) in
+    let fits = fits_with_any c pid turns spans came false f.parted.position rooms in
+    cause_if (is_taken_live f && are_leavable (own_room (opened_in turns)) rooms && fits) (LeaveMissing f.parted.again)

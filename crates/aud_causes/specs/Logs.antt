@@ -34,14 +34,11 @@ first_cause stream place _ = Some (NoStart place)
 abbrev pub taken_again : RecordPlace → ℕ → ℕ → Option Cause
 taken_again place cursor p = if nat_le p cursor then Some (EntryTakenAgain place cursor p) else None
 
--- it has, or the entry stands past the next one
-abbrev pub not_the_next : RecordPlace → ℕ → ℕ → Option Cause
-not_the_next place cursor p = if nat_lt (suc cursor) p then Some (EntriesSkippedByNode place cursor p) else taken_again place cursor p
-
--- of a `take` of the entry at this position, if the stream has it, where the node has this cursor before it
+-- of a `take` of the entry at this position, if the stream has it, where the node has this cursor before it: it stands past
+-- the next one, or the node has taken it
 abbrev pub take_cause : RecordPlace → ℕ → Option ℕ → Option Cause
 take_cause place cursor None = Some (NotInStream place)
-take_cause place cursor (Some p) = not_the_next place cursor p
+take_cause place cursor (Some p) = if nat_lt (suc cursor) p then Some (EntriesSkippedByNode place cursor p) else taken_again place cursor p
 
 -- the same of a `takes`, which is of all entries up to that one
 abbrev pub takes_cause : RecordPlace → ℕ → Option ℕ → Option Cause

@@ -41,14 +41,10 @@ abbrev pub unnamed_from : Cluster → ℕ → List Tap → Option ℕ
 unnamed_from c place [] = None
 unnamed_from c place (tap ∷ taps) = if has_unnamed c place (transcript_at c place) then Some place else unnamed_from c (suc place) taps
 
--- a client's tap has a CONNECT or events of no known session: the first that has any
-abbrev pub reply_missing : Cluster → Option Cause
-reply_missing c = option_map ReplyMissing (unnamed_from c 0 c.taps)
-
--- of so many clients' taps that name the session. None: no tap does; a tap has a CONNECT or events of no known session; a
--- tap has a connection without a packet, which may be the session's. Or several
+-- of so many clients' taps that name the session. None: no tap does; a tap, the first such, has a CONNECT or events of no
+-- known session; a tap has a connection without a packet, which may be the session's. Or several
 abbrev pub client_causes : Cluster → Text → ℕ → List Cause
-client_causes c pid zero = held (Some NoClientTap ∷ reply_missing c ∷ tap_without_packets c pid ∷ [])
+client_causes c pid zero = held (Some NoClientTap ∷ option_map ReplyMissing (unnamed_from c 0 c.taps) ∷ tap_without_packets c pid ∷ [])
 client_causes c pid (suc zero) = []
 client_causes c pid (suc (suc more)) = TwoTaps (suc (suc more)) ∷ []
 

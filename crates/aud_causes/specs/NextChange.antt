@@ -18,16 +18,12 @@ is_change pid room (Some (Join other name)) = bytes_eq other pid && bytes_eq nam
 is_change pid room (Some (Leave other name)) = bytes_eq other pid && bytes_eq name room
 is_change pid room _ = false
 
--- what was reached, if that is this position or past it
-abbrev pub reached_past : ℕ → ℕ → Option ℕ
-reached_past p reached = if nat_lt reached p then None else Some reached
-
 -- where the record with this number is such a change: the last position that the session had reached by then, if that is
 -- this one or past it; in the turns before it had reached that one
 abbrev pub change_in : NodeTap → Text → Text → ℕ → ℕ → ℕ → Option ℕ
 change_in tap pid room p high number =
     if is_change pid room (slice_get tap.recs number)
-    then option_and_then (λ cursor. reached_past p (max cursor high)) (cursor_after tap number)
+    then option_and_then (λ cursor. if nat_lt (max cursor high) p then None else Some (max cursor high)) (cursor_after tap number)
     else None
 
 -- the same of the node at this place

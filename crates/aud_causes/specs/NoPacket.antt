@@ -15,14 +15,12 @@ use Rattle.aud_refusals.specs.NoPacket.{no_packet_at}
 use Rattle.aud_causes.specs.declared.why.Figure.{Figure}
 use Rattle.aud_causes.specs.declared.why.Figure.TheVariants.{Number, Refused}
 
--- why the record with this number of these is no packet, if there is one
-abbrev pub no_packet_of : Option ℕ → List ClientRec → Option NoPacket
-no_packet_of None recs = None
-no_packet_of (Some number) recs = no_packet_at recs number
-
 -- why the first record that is no packet of the client's tap at this place is none
 abbrev pub no_packet_in : Cluster → ℕ → Option NoPacket
-no_packet_in c client = option_and_then (no_packet_of (option_and_then (λ (t : TranscriptSeen). t.bad) (transcript_at c client))) (client_at c client)
+no_packet_in c client =
+    option_and_then
+    (λ (recs : List ClientRec). option_and_then (no_packet_at recs) (option_and_then (λ (t : TranscriptSeen). t.bad) (transcript_at c client)))
+    (client_at c client)
 
 -- ---- in words
 

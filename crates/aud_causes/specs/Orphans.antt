@@ -24,14 +24,12 @@ use Rattle.aud_causes.specs.Delivery.{cause_if, held}
 
 -- ---- the stay before it
 
--- the other stay is of the same connection and namespace
-abbrev pub is_beside : StaySeen → StaySeen → Bool
-is_beside stay other = nat_eq other.c stay.c && bytes_eq other.nsp stay.nsp
-
--- the number of the last of these stays that is, where this is the last so far; they count on from this number
+-- the number of the last of these stays that is of the same connection and namespace, where this is the last so far; they
+-- count on from this number
 abbrev pub last_beside : StaySeen → Option ℕ → ℕ → List StaySeen → Option ℕ
 last_beside stay last number [] = last
-last_beside stay last number (other ∷ stays) = last_beside stay (if is_beside stay other then Some number else last) (suc number) stays
+last_beside stay last number (other ∷ stays) =
+    last_beside stay (if nat_eq other.c stay.c && bytes_eq other.nsp stay.nsp then Some number else last) (suc number) stays
 
 -- of the stays before the one with this number
 abbrev pub stay_before : List StaySeen → ℕ → StaySeen → Option ℕ
@@ -77,14 +75,11 @@ abbrev pub is_sent : Option ClientRec → Bool
 is_sent (Some (TextOut t)) = true
 is_sent _ = false
 
--- the first record of the stay with this number of the client's tap at this place
-abbrev pub first_of_stay : Cluster → ℕ → ℕ → Option ClientRec
-first_of_stay c client number = option_and_then (λ (p : PlacesSeen). client_record c client p.first) (slice_get (places_at c client) number)
-
 -- the stay begins with the client's CONNECT: with a packet of the client, since one that begins with its DISCONNECT has
 -- nothing else
 abbrev pub is_asked_first : Cluster → ℕ → ℕ → Bool
-is_asked_first c client number = is_sent (first_of_stay c client number)
+is_asked_first c client number =
+    is_sent (option_and_then (λ (p : PlacesSeen). client_record c client p.first) (slice_get (places_at c client) number))
 
 -- ---- the tap's begin
 
@@ -157,19 +152,16 @@ abbrev pub causes_of_before : Cluster → ℕ → ℕ → Option ℕ → List Ca
 causes_of_before c client number None = []
 causes_of_before c client number (Some before) = before_causes c client number before (slice_get (stays_at c client) before)
 
--- of events in this stay without a reply, where the stay before it, if there is one, has this number; and whether it begins
--- with the client's CONNECT
-abbrev pub causes_without_reply : Cluster → ℕ → ℕ → StaySeen → Option ℕ → Bool → List Cause
-causes_without_reply c client number stay before asked_first =
-    held
-    (without_reply number stay.asked (next_of_stay c client number) (began_late c client number stay asked_first)
-    ∷ reply_lost client stay.asked (asked_first && is_none before) (next_of_stay c client number) ∷ [])
-    ++ causes_of_before c client number before
-
--- the same, by the stays of the client's tap
+-- of events in this stay without a reply, of the client's tap
 abbrev pub unreplied_causes : Cluster → ℕ → ℕ → StaySeen → List Cause
 unreplied_causes c client number stay =
-    causes_without_reply c client number stay (stay_before (stays_at c client) number stay) (is_asked_first c client number)
+    let before = stay_before (stays_at c client) number stay in
+    let asked_first = is_asked_first c client number in
+    let next = next_of_stay c client number in
+    held
+    (without_reply number stay.asked next (began_late c client number stay asked_first)
+    ∷ reply_lost client stay.asked (asked_first && is_none before) next ∷ [])
+    ++ causes_of_before c client number before
 
 -- of events in a stay with this reply, or without one: the reply names nobody
 abbrev pub replied_causes : Cluster → ℕ → ℕ → StaySeen → Option ReplySeen → List Cause

@@ -13,36 +13,26 @@ use Rattle.aud_node.specs.NodeTaps.{node_at}
 use Rattle.aud_node.specs.OwnPlaces.{own_places}
 use Rattle.aud_node.specs.OwnRecords.{own_numbers}
 use Rattle.aud_node.specs.Stream.{Text}
-use Rattle.aud_client.specs.Received.{stays_naming}
 use Rattle.aud_client.specs.Replies.{naming_places}
-use Rattle.aud_client.specs.StaySeen.{StaySeen}
 use Rattle.aud_cert.specs.declared.fault.Fault.{Fault}
 use Rattle.aud_cert.specs.declared.fault.Fault.TheVariants as fault
 use Rattle.aud_session_facts.specs.declared.place.RecordPlace.{RecordPlace}
-use Rattle.aud_session_facts.specs.Marks.{turn_marks}
-use Rattle.aud_session_facts.specs.Recoveries.{stays_at}
 use Rattle.aud_causes.specs.declared.cause.Cause.{Cause}
 use Rattle.aud_causes.specs.declared.cause.Cause.TheVariants.{NodeNotTapped, OpenNotRecorded}
-use Rattle.aud_causes.specs.Chain.{chain_causes}
+use Rattle.aud_causes.specs.Chain.{causes_of_turns}
 use Rattle.aud_causes.specs.Delivery.{cause_if, held}
 use Rattle.aud_causes.specs.Logs.{order_cause}
 use Rattle.aud_causes.specs.Names.{client_causes}
 
--- the stays of the client's tap at this place, if there is one, whose reply names the session
-abbrev pub stays_of_client : Cluster → Option ℕ → Text → List StaySeen
-stays_of_client c None pid = []
-stays_of_client c (Some client) pid = stays_naming pid (stays_at c client)
-
--- the session's first record on the node at this place
-abbrev pub own_on : Cluster → Text → ℕ → Option RecordPlace
-own_on c pid node =
+-- the session's first record on the first node that has any
+abbrev pub first_own : Cluster → Text → Option RecordPlace
+first_own c pid =
+    option_and_then
+    (λ node.
     option_and_then
     (λ (tap : NodeTap). option_map (λ number. record { node = node; number = number }) (slice_get (own_numbers tap.recs pid) 0))
-    (node_at c node)
-
--- that on the first node that has any
-abbrev pub first_own : Cluster → Text → Option RecordPlace
-first_own c pid = option_and_then (own_on c pid) (slice_get (own_places c pid) 0)
+    (node_at c node))
+    (slice_get (own_places c pid) 0)
 
 -- these are the records of a node's tap
 abbrev pub is_of_node : Records → Bool
@@ -54,15 +44,11 @@ is_of_node (records.Client recs) = false
 abbrev pub is_node : Tap → Bool
 is_node tap = is_of_node tap.records
 
--- a node is tapped
-abbrev pub open_missing : Cluster → Option Cause
-open_missing c = cause_if (list_any is_node c.taps) (OpenNotRecorded None)
-
 -- no log has the session's `open`, where this is its first record on a node, if it has any; without one, where a node is
 -- tapped
 abbrev pub open_not_recorded : Cluster → Option RecordPlace → Option Cause
 open_not_recorded c (Some first) = Some (OpenNotRecorded (Some first))
-open_not_recorded c None = open_missing c
+open_not_recorded c None = cause_if (list_any is_node c.taps) (OpenNotRecorded None)
 
 -- the record, with which a log's records of the session begin, is of its turn 0: the `break` of that turn, or one that
 -- stands before any `back` or `break`
@@ -81,17 +67,11 @@ first_on c pid node =
 abbrev pub has_first_turn : Cluster → Text → List ℕ → Bool
 has_first_turn c pid nodes = list_any (λ node. is_of_first_turn (first_on c pid node)) nodes
 
--- the node that opened the session is not tapped: no log has a record of its turn 0
-abbrev pub opener_not_tapped : Cluster → Text → Option Cause
-opener_not_tapped c pid = cause_if (not (has_first_turn c pid (own_places c pid))) (NodeNotTapped 0)
-
--- the causes of a session that no node opened: its `open` alone is missing; or its node isn't tapped
+-- the causes of a session that no node opened: its `open` alone is missing; or its node isn't tapped, for no log has a
+-- record of its turn 0
 abbrev pub no_log_causes : Cluster → Text → List Cause
-no_log_causes c pid = held (open_not_recorded c (first_own c pid) ∷ opener_not_tapped c pid ∷ [])
-
--- the causes of a break in the chain of the session's turns, where this is the place of its client's tap
-abbrev pub causes_of_turns : Cluster → Option ℕ → Text → List Cause
-causes_of_turns c client pid = chain_causes c pid (turn_marks c pid) (stays_of_client c client pid)
+no_log_causes c pid =
+    held (open_not_recorded c (first_own c pid) ∷ cause_if (not (has_first_turn c pid (own_places c pid))) (NodeNotTapped 0) ∷ [])
 
 -- the causes for which these records of nodes are out of order
 abbrev pub order_causes : Cluster → List RecordPlace → List Cause

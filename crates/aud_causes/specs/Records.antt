@@ -24,27 +24,19 @@ client_row c lines client numbers (Reply stay) = option_and_then (λ number. rep
 client_row c lines client numbers (First number) = first_row c lines client number Fault
 client_row c lines client numbers Bad = bad_row c lines client Fault
 
--- the row of a record where no client's tap is given
-abbrev pub node_row_of : Cluster → List TapLines → RecordAt → Option RowSeen
-node_row_of c lines (Node place) = node_row c lines place.node place.number Fault
-node_row_of c lines _ = None
-
--- the row of a record, where this is the place of the client's tap, if one is given
+-- the row of a record, where this is the place of the client's tap; of a node's alone, where none is given
 abbrev pub record_row : Cluster → List TapLines → Option ℕ → List ℕ → RecordAt → Option RowSeen
-record_row c lines None numbers at = node_row_of c lines at
 record_row c lines (Some client) numbers at = client_row c lines client numbers at
+record_row c lines None numbers (Node place) = node_row c lines place.node place.number Fault
+record_row c lines None numbers _ = None
 
 -- the place of the tap, if there is one
 abbrev pub place_of : Option ClientPlaces → Option ℕ
 place_of tap = option_map (λ (t : ClientPlaces). t.place) tap
 
--- the line that the row's record stands on
-abbrev pub line_of : Option RowSeen → Option ℕ
-line_of row = option_map (λ (r : RowSeen). r.line) row
-
 -- the line of the record
 abbrev pub line_at : Cluster → List TapLines → Option ℕ → List ℕ → RecordAt → Option ℕ
-line_at c lines client numbers at = line_of (record_row c lines client numbers at)
+line_at c lines client numbers at = option_map (λ (r : RowSeen). r.line) (record_row c lines client numbers at)
 
 -- the lines of these, of those that are known
 abbrev pub lines_at : Cluster → List TapLines → Option ℕ → List ℕ → List RecordAt → List ℕ

@@ -102,13 +102,6 @@ asked_too_early c marks opening =
 
 -- ---- the causes, in their order
 
--- the offset; the session was over; a node's log ends in it; it had not broken; the client asked too early. These are the
--- causes of the offset and of asking too early, and the records that begin and end the session's turns, where the last of
--- these is one before the client asked
-abbrev pub refused_causes : Cluster → Option Cause → Option Cause → List TurnMark → List Cause
-refused_causes c offset early marks =
-    held (offset ∷ session_over marks ∷ node_ended c marks ∷ never_broken marks ∷ early ∷ [])
-
 -- the session that a reply names; the empty text where there is none
 abbrev pub got_of : Option ReplySeen → Text
 got_of None = []
@@ -118,13 +111,16 @@ got_of (Some reply) = pid_or_empty reply.pid
     pid_or_empty None = []
     pid_or_empty (Some pid) = pid
 
--- where the client asked for this in the stay with this number, and got this session
+-- where the client asked for this in the stay with this number, and got this session: the offset; the session was over; a
+-- node's log ends in it; it had not broken; the client asked too early. The session's records count where the last of them is
+-- one before the client asked
 abbrev pub asked_causes : Cluster → List StaySeen → ℕ → AskedSeen → Text → List Cause
 asked_causes c stays number asked got =
-    refused_causes c
-    (offset_cause c asked.offset)
-    (asked_too_early c (turn_marks c asked.pid) (turn_marks c got))
-    (marks_before (turn_marks c asked.pid) stays number asked.pid)
+    let marks = turn_marks c asked.pid in
+    let before = marks_before marks stays number asked.pid in
+    held
+    (offset_cause c asked.offset ∷ session_over before ∷ node_ended c before ∷ never_broken before
+    ∷ asked_too_early c marks (turn_marks c got) ∷ [])
 
 -- where this was asked for
 abbrev pub causes_of_asked : Cluster → List StaySeen → ℕ → Option AskedSeen → Text → List Cause

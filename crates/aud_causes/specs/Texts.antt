@@ -5,7 +5,7 @@ use Rattle.aud_tap.specs.declared.records.StreamRec.{StreamRec}
 use Rattle.aud_tap.specs.declared.records.StreamRec.TheVariants.{Ev}
 use Rattle.aud_node.specs.Cluster.{Cluster}
 use Rattle.aud_node.specs.Stream.{Text, entry}
-use Rattle.aud_client.specs.StaySeen.{FrameSeen, StaySeen}
+use Rattle.aud_client.specs.StaySeen.{FrameSeen}
 use Rattle.aud_session_facts.specs.Recoveries.{stays_at}
 use Rattle.aud_check.specs.declared.content.Part.TheVariants as part
 use Rattle.aud_session_facts.specs.declared.shown.frame_place.FramePlace.{FramePlace}
@@ -21,21 +21,17 @@ apart_in (AnotherEncoder frame (part.Text at)) = Some (record { frame = frame; a
 apart_in (Altered frame (part.Text at)) = Some (record { frame = frame; at = at })
 apart_in _ = None
 
--- the frame at this place, if there is one
-abbrev pub frame_there : List StaySeen → FramePlace → Option FrameSeen
-frame_there stays place = slice_get (frames_of (slice_get stays place.stay)) place.frame
-
 -- the session's frame with this number, where these are the numbers of its stays in the client's tap at this place
 abbrev pub frame_of : Cluster → List ℕ → ℕ → ℕ → Option FrameSeen
-frame_of c numbers frame client = option_and_then (frame_there (stays_at c client)) (frame_at (stays_at c client) numbers frame)
+frame_of c numbers frame client =
+    option_and_then
+    (λ (place : FramePlace). slice_get (frames_of (slice_get (stays_at c client) place.stay)) place.frame)
+    (frame_at (stays_at c client) numbers frame)
 
--- what both texts have around the byte
-abbrev pub both_texts : Text → Text → ℕ → Text
-both_texts came event at = codes " It has " ++ excerpt came at ++ codes ", and the entry has " ++ excerpt event at ++ codes " there."
-
--- the same of a frame and its entry, if that is an event
+-- what a frame and its entry have around the byte, if that is an event
 abbrev pub texts_against : Option StreamRec → FrameSeen → ℕ → Text
-texts_against (Some (Ev event)) frame at = both_texts frame.text event.text at
+texts_against (Some (Ev event)) frame at =
+    codes " It has " ++ excerpt frame.text at ++ codes ", and the entry has " ++ excerpt event.text at ++ codes " there."
 texts_against entry frame at = []
 
 -- the same, if there is such a frame

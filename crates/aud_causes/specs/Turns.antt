@@ -112,13 +112,11 @@ is_after_begin turn broken m = is_past_turn turn (begun_turn m) || (broken && is
 abbrev pub after_begin : ℕ → Bool → List TurnMark → Option RecordPlace
 after_begin turn broken marks = option_map (λ (m : TurnMark). m.place) (find (λ (m : TurnMark). is_after_begin turn broken m.mark) marks)
 
--- the cause of this turn
-abbrev pub missing_back_of : List TurnMark → ℕ → Option Cause
-missing_back_of marks turn = option_map (MissingBack turn) (after_begin turn (is_broken marks (turn - 1)) marks)
-
 -- the begin of the first turn that no log begins is missing, where these are the turns' begins
 abbrev pub missing_back : List TurnMark → List (Option RecordPlace) → Option Cause
-missing_back marks begins = missing_back_of marks (unbegun 0 begins)
+missing_back marks begins =
+    let turn = unbegun 0 begins in
+    option_map (MissingBack turn) (after_begin turn (is_broken marks (turn - 1)) marks)
 
 -- the recovery after this turn: that with the turn's number among these, where they match so many turns, of which each but
 -- the first begins with one

@@ -1,7 +1,6 @@
 -- A turn for which two records take the session back.
-use Rattle.std.specs.Prelude.{ℕ, zero, suc, Bool, true, false, not, ◌&&◌, ◌||◌, List, [], ◌∷◌, count_by, flat_map, length, Option, Some, None, if◌then◌else◌, nat_eq, nat_le, slice_get}
+use Rattle.std.specs.Prelude.{ℕ, Bool, true, false, not, ◌&&◌, ◌||◌, ◌++◌, List, [], ◌∷◌, count_by, length, Option, Some, None, if◌then◌else◌, nat_eq, nat_le, slice_get}
 use Rattle.std.specs.Option.{option_and_then, option_map, option_or}
-use Rattle.aud_base.specs.Lists.{numbers_from}
 use Rattle.aud_session_facts.specs.declared.marks.Mark.{Mark}
 use Rattle.aud_session_facts.specs.declared.marks.Mark.TheVariants as mark
 use Rattle.aud_session_facts.specs.declared.marks.TurnMark.{TurnMark}
@@ -43,15 +42,6 @@ abbrev pub twice_by : List (Option RecordPlace) → Option TurnMark → TurnMark
 twice_by begins before m =
     option_and_then (λ turn. if is_written_again turn m.place before then None else begun_twice turn m.place (slice_get begins turn)) (back_turn m.mark)
 
--- the record before the one with this number; those of a log stand together, in its order
-abbrev pub mark_before : List TurnMark → ℕ → Option TurnMark
-mark_before marks zero = None
-mark_before marks (suc number) = slice_get marks number
-
--- the same of the record with this number
-abbrev pub twice_at : List (Option RecordPlace) → List TurnMark → ℕ → Option Twice
-twice_at begins marks number = option_and_then (twice_by begins (mark_before marks number)) (slice_get marks number)
-
 -- ---- a second `open`
 
 -- it is an `open`
@@ -92,16 +82,15 @@ is_as_often marks came = nat_le (count_by (λ (m : TurnMark). is_back m.mark) ma
 abbrev pub turn_not_stored : List Bool → Bool → Twice → Option Cause
 turn_not_stored ended as_often t = cause_if (as_often || is_so (slice_get ended t.turn)) (TurnNotStored t.turn t.first t.again)
 
--- they stand in the logs of two nodes
-abbrev pub recovered_twice : Twice → Option Cause
-recovered_twice t = cause_if (not (nat_eq t.first.node t.again.node)) (RecoveredTwice t.turn t.first t.again)
-
--- both, if there is such a turn: the turn was not stored with the session; two nodes took one stored session back
+-- the causes, if there is such a turn: the turn was not stored with the session; two nodes took one stored session back
 abbrev pub causes_of_twice : List Bool → Bool → Option Twice → List Cause
 causes_of_twice ended as_often None = []
-causes_of_twice ended as_often (Some t) = held (turn_not_stored ended as_often t ∷ recovered_twice t ∷ [])
+causes_of_twice ended as_often (Some t) =
+    held (turn_not_stored ended as_often t ∷ cause_if (not (nat_eq t.first.node t.again.node)) (RecoveredTwice t.turn t.first t.again) ∷ [])
 
--- those of each of these records, where these are the turns' first begins, and whether their logs end them
-abbrev pub twice_causes : List (Option RecordPlace) → List Bool → Bool → List TurnMark → List Cause
-twice_causes begins ended as_often marks =
-    flat_map (λ number. causes_of_twice ended as_often (twice_at begins marks number)) (numbers_from 0 (length marks))
+-- those of each of these records, where these are the turns' first begins, and whether their logs end them, and this is the
+-- record before them, if there is one; the records of a log stand together, in its order
+abbrev pub twice_causes : List (Option RecordPlace) → List Bool → Bool → Option TurnMark → List TurnMark → List Cause
+twice_causes begins ended as_often before [] = []
+twice_causes begins ended as_often before (m ∷ marks) =
+    causes_of_twice ended as_often (twice_by begins before m) ++ twice_causes begins ended as_often (Some m) marks

@@ -1,5 +1,5 @@
 -- What a recovery that was asked for where it does not fit may come from.
-use Rattle.std.specs.Prelude.{ℕ, Bool, false, not, List, [], ◌∷◌, Option, Some, None, slice_get}
+use Rattle.std.specs.Prelude.{ℕ, false, not, List, [], ◌∷◌, Option, Some, None, slice_get}
 use Rattle.std.specs.Option.{option_map, option_map_or, option_and_then}
 use Rattle.aud_node.specs.Cluster.{Cluster}
 use Rattle.aud_node.specs.Stream.{Text}
@@ -18,15 +18,11 @@ use Rattle.aud_causes.specs.Differences.{offset_of_another}
 abbrev pub offset_in : Option StaySeen → Option Text
 offset_in stay = option_and_then (λ (s : StaySeen). option_and_then (λ (asked : AskedSeen). asked.offset) s.asked) stay
 
--- a node's log names the entry of this offset, if there is one
-abbrev pub is_offset_named : Cluster → Option Text → Bool
-is_offset_named c off = option_map_or (is_named c) off false
-
 -- what such a misfit of this stay says, where the client asked with this offset to go on after this position: it gave no
 -- offset; or one that neither the stream nor a node's log has; or one before a frame that it had
 abbrev pub misfit_cause : Cluster → ℕ → Option Text → Option ℕ → Misfit → Option Cause
 misfit_cause c stay off asked misfit.NoOffset = Some (NoOffset stay)
-misfit_cause c stay off asked misfit.Unknown = cause_if (not (is_offset_named c off)) (UnknownOffset stay)
+misfit_cause c stay off asked misfit.Unknown = cause_if (not (option_map_or (is_named c) off false)) (UnknownOffset stay)
 misfit_cause c stay off asked (misfit.Behind frame) = option_map (StaleOffset stay) asked
 misfit_cause c stay off asked (misfit.NotBehind frame) = None
 
@@ -36,6 +32,6 @@ by_misfit c window off asked = misfit_cause c window.stay off asked window.why
 -- of such a recovery: what the misfit says; the offset was another session's
 abbrev pub window_causes : Cluster → List StaySeen → List ℕ → BadWindow → List Cause
 window_causes c stays due window =
-    held
-    (by_misfit c window (offset_in (slice_get stays window.stay)) (asked_after c.stream (slice_get stays window.stay))
-    ∷ offset_of_another due window.stay (asked_after c.stream (slice_get stays window.stay)) ∷ [])
+    let stay = slice_get stays window.stay in
+    let asked = asked_after c.stream stay in
+    held (by_misfit c window (offset_in stay) asked ∷ offset_of_another due window.stay asked ∷ [])

@@ -2,14 +2,14 @@
 ghost use Rattle.std.specs.Prelude.{◌≡◌, IfOk, map, nat_eq, slice_get};
 ghost use Rattle.std.specs.Cmp.Lexicographic.{pointwise};
 ghost use Rattle.aud_maker.specs.Made.{IsMade};
-ghost use Rattle.aud_causes.specs.AtBreak.{came_within, due_at_break, first_came, first_past, first_taken, rooms_at_break};
+ghost use Rattle.aud_causes.specs.AtBreak.{came_within, due_at_break, rooms_at_break};
 
 use crate::cause::Cause;
 use crate::facts::{Facts, Replay};
 use crate::list::front_of;
 use crate::live::is_replayed;
 use aud_cert::Certificate;
-use aud_client::{Frame, Recording, Stay};
+use aud_client::{Recording, Stay};
 use aud_maker::made_is_over;
 use aud_rooms::due_of;
 use aud_session_facts::{opened_in, spans_held};
@@ -115,31 +115,4 @@ fn came_within(
         }
     }
     Ok(came)
-}
-
-/// The first position past what was to be replayed that came in the later stay; none where none did, or what was to be
-/// replayed isn't known.
-pub(crate) fn first_taken(stays: &[&Stay<'_>], facts: Facts) -> Option<u64>
-    ensures { result ≡ first_taken (map (λ stay. stay.now) stays.now) facts }
-{
-    let replay = facts.replay?;
-    let stay = stays.get(facts.later).copied()?;
-    first_past(&stay.frames, replay.low)
-}
-
-/// The position of the first frame in the later stay, if there is one.
-pub(crate) fn first_came(stays: &[&Stay<'_>], facts: Facts) -> Option<u64>
-    ensures { result ≡ first_came (map (λ stay. stay.now) stays.now) facts }
-{
-    let stay = stays.get(facts.later).copied()?;
-    let frame = stay.frames.get(0)?;
-    Some(frame.position)
-}
-
-/// The position of the first of the frames that is past this one.
-fn first_past(frames: &[Frame<'_>], low: u64) -> Option<u64>
-    ensures { result ≡ first_past low frames.now }
-{
-    let frame = frames.iter().find(|frame| low < frame.position)?;
-    Some(frame.position)
 }

@@ -1,6 +1,6 @@
 //! A client's tap that may have a session's connection without its packets.
 ghost use Rattle.std.specs.Prelude.{◌≡◌, IfOk};
-ghost use Rattle.aud_causes.specs.Bare.{bare_place, first_bare, is_bare, tap_without_packets};
+ghost use Rattle.aud_causes.specs.Bare.{bare_place, is_bare, tap_without_packets};
 
 use crate::cause::Cause;
 use crate::turns::turn_count;
@@ -22,18 +22,11 @@ pub(crate) fn tap_without_packets(
     if turn_count(&marks) != 1 {
         return Ok(None);
     }
-    Ok(first_bare(logs.taps()))
+    let client = bare_place(logs.taps());
+    Ok(client.map(|client| Cause::ClientTapHasNoPackets { client }))
 }
 
-/// The first of these taps whose first connection has no packet.
-fn first_bare(taps: &[Tap]) -> Option<Cause>
-    ensures { result ≡ first_bare taps.now }
-{
-    let client = bare_place(taps)?;
-    Some(Cause::ClientTapHasNoPackets { client })
-}
-
-/// Its place.
+/// The place of the first of these taps whose first connection has no packet.
 fn bare_place(taps: &[Tap]) -> Option<usize>
     ensures { result ≡ bare_place taps.now }
 {

@@ -1,7 +1,7 @@
 //! What came twice because a body of polling did.
 ghost use Rattle.std.specs.Prelude.{◌≡◌, None, slice_get};
 ghost use Rattle.std.specs.Option.{option_copied};
-ghost use Rattle.aud_causes.specs.Bodies.{body_at, body_twice, client_record, equal_bodies, frames_there, last_of, last_record, places_at, record_of};
+ghost use Rattle.aud_causes.specs.Bodies.{body_at, body_twice, client_record, frames_there, last_of, last_record, places_at, record_of};
 
 use crate::cause::Cause;
 use crate::facts::Facts;
@@ -21,47 +21,29 @@ pub(crate) fn body_twice(
 ) -> Option<Cause>
     ensures { result ≡ body_twice recording.now client numbers.now facts }
 {
+    let (first, again) = (facts.parted.first, facts.parted.again);
+    let number = record_of(recording, client, numbers, first)?;
+    let body = body_at(recording, client, number)?;
     if facts.earlier == facts.later {
-        return equal_bodies(recording, client, numbers, facts);
+        let other = record_of(recording, client, numbers, again)?;
+        let text = body_at(recording, client, other)?;
+        if number == other || body.as_str() != text.as_str() {
+            return None;
+        }
+        return Some(Cause::BodyCameTwice {
+            first,
+            again,
+            equal: true,
+        });
     }
-    if facts.later < facts.earlier {
-        return None;
-    }
-    let first = record_of(recording, client, numbers, facts.parted.first)?;
     let last = last_record(places_at(recording, client), front_of(numbers, facts.later))?;
-    if first != last || body_at(recording, client, first).is_none() {
+    if facts.later <= facts.earlier || number != last {
         return None;
     }
     Some(Cause::BodyCameTwice {
-        first: facts.parted.first,
-        again: facts.parted.again,
+        first,
+        again,
         equal: false,
-    })
-}
-
-/// Where the two frames came in two bodies of polling of the same text.
-fn equal_bodies(
-    recording: &Recording<'_>,
-    client: usize,
-    numbers: &[usize],
-    facts: Facts,
-) -> Option<Cause>
-    ensures { result ≡ equal_bodies recording.now client numbers.now facts }
-{
-    let first = record_of(recording, client, numbers, facts.parted.first)?;
-    let again = record_of(recording, client, numbers, facts.parted.again)?;
-    if first == again {
-        return None;
-    }
-    let body = body_at(recording, client, first)?;
-    let other = body_at(recording, client, again)?;
-    if body.as_str() != other.as_str() {
-        return None;
-    }
-    Some(Cause::BodyCameTwice {
-        first: facts.parted.first,
-        again: facts.parted.again,
-        equal: true,
     })
 }
 

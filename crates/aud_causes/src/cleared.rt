@@ -1,7 +1,6 @@
 //! A session that is cleared up after its break.
 ghost use Rattle.std.specs.Prelude.{◌≡◌, ◌++◌, OnOk};
-ghost use Rattle.std.specs.Option.{option_copied};
-ghost use Rattle.aud_causes.specs.Cleared.{broke_by, cleared_after_break, cleared_at, cleared_on};
+ghost use Rattle.aud_causes.specs.Cleared.{cleared_after_break, cleared_on};
 
 use crate::cause::Cause;
 use crate::list::push_some;
@@ -37,44 +36,23 @@ fn cleared_on(logs: &Logs<'_>, pid: &str, node: usize) -> Option<Cause>
             node,
             number: *number,
         };
-        let rec = log.recs().get(*number);
-        if let Some(cause) = cleared_at(place, rec, broke) {
-            return Some(cause);
+        match log.recs().get(*number) {
+            Some(NodeRec::Broke { .. }) => {
+                broke = Some(place);
+            }
+            Some(NodeRec::Opened { .. } | NodeRec::Back { .. }) => {
+                broke = None;
+            }
+            Some(NodeRec::Leave { .. } | NodeRec::Gone { .. }) => {
+                if let Some(broke) = broke {
+                    return Some(Cause::ClearedAfterBreak {
+                        broke,
+                        cleared: place,
+                    });
+                }
+            }
+            _ => {}
         }
-        broke = broke_by(place, rec, broke);
     }
     None
-}
-
-/// Where the record at this place clears the session up, after this break.
-fn cleared_at(
-    place: RecordPlace,
-    rec: Option<&NodeRec>,
-    broke: Option<RecordPlace>,
-) -> Option<Cause>
-    ensures { result ≡ cleared_at place (option_copied rec.entry) broke }
-{
-    let broke = broke?;
-    match rec {
-        Some(NodeRec::Leave { .. } | NodeRec::Gone { .. }) => Some(Cause::ClearedAfterBreak {
-            broke,
-            cleared: place,
-        }),
-        _ => None,
-    }
-}
-
-/// The `break` that no turn follows up to the record at this place, where this was that before the record.
-fn broke_by(
-    place: RecordPlace,
-    rec: Option<&NodeRec>,
-    broke: Option<RecordPlace>,
-) -> Option<RecordPlace>
-    ensures { result ≡ broke_by place (option_copied rec.entry) broke }
-{
-    match rec {
-        Some(NodeRec::Broke { .. }) => Some(place),
-        Some(NodeRec::Opened { .. } | NodeRec::Back { .. }) => None,
-        _ => broke,
-    }
 }

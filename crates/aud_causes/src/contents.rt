@@ -1,9 +1,8 @@
 //! What an event that isn't its entry may come from.
-ghost use Rattle.std.specs.Prelude.{◌≡◌, ◌&&◌, not, IfOk, map, option_map};
+ghost use Rattle.std.specs.Prelude.{◌≡◌, IfOk, map, option_map};
 ghost use Rattle.serde_json.specs.View.{view};
 ghost use Rattle.aud_sio.specs.Message.{blob_bytes};
 ghost use Rattle.aud_sio.specs.Assembly.{blob_view};
-ghost use Rattle.aud_causes.specs.Delivery.{cause_if};
 ghost use Rattle.aud_causes.specs.Contents.{are_same, are_same_in_any_order, content_causes, elements, event_causes, is_as_often, is_other_call, is_other_event, of_both, said_in, said_view, says_same};
 
 use crate::cause::Cause;
@@ -43,7 +42,9 @@ pub(crate) fn content_causes(
     }
 }
 
-/// Those that hold of this frame, which parts from this entry so.
+/// Those that hold of this frame, which parts from this entry so: it says the same, with the same attachments, or with these
+/// in another order; else it was altered; and it may be of another event.
+#[tactic(auto, using(crate::proofs::ItemLemmas::then_if))]
 fn event_causes(
     alloc: Global,
     frame: &Frame<'_>,
@@ -56,63 +57,21 @@ fn event_causes(
     let entry = said_in(alloc, event.text.as_str())?;
     let same = says_same(&came, &entry);
     let other = is_other_event(&came, &entry);
-    let (number, part) = (altered.frame, altered.part);
+    let ordered = are_same(frame.bin(), event.bin.as_slice());
+    let there = are_same_in_any_order(frame.bin(), event.bin.as_slice());
+    let encoder = same && ordered;
+    let reordered = same && !ordered && there;
+    let changed = !(same && there);
+    let (frame, part) = (altered.frame, altered.part);
     held(
         alloc,
         &[
-            cause_if(
-                is_by_another_encoder(same, frame, event),
-                Cause::AnotherEncoder {
-                    frame: number,
-                    part,
-                },
-            ),
-            cause_if(
-                is_reordered(same, frame, event),
-                Cause::AttachmentsReordered { frame: number },
-            ),
-            cause_if(
-                is_altered(same, frame, event),
-                Cause::Altered {
-                    frame: number,
-                    part,
-                },
-            ),
-            cause_if(other, Cause::AnotherEvent { frame: number }),
+            encoder.then_some(Cause::AnotherEncoder { frame, part }),
+            reordered.then_some(Cause::AttachmentsReordered { frame }),
+            changed.then_some(Cause::Altered { frame, part }),
+            other.then_some(Cause::AnotherEvent { frame }),
         ],
     )
-}
-
-/// Whether the frame says the same as its entry, and has its attachments.
-fn is_by_another_encoder(same: bool, frame: &Frame<'_>, event: &Event) -> bool
-    ensures { result ≡ (same && are_same frame.now.bin event.now.bin) }
-{
-    same && are_same(frame.bin(), event.bin.as_slice())
-}
-
-/// Whether it says the same, and has the entry's attachments in another order.
-fn is_reordered(same: bool, frame: &Frame<'_>, event: &Event) -> bool
-    ensures { result ≡ (same && not (are_same frame.now.bin event.now.bin)
-        && are_same_in_any_order frame.now.bin event.now.bin) }
-{
-    if !same || are_same(frame.bin(), event.bin.as_slice()) {
-        return false;
-    }
-    are_same_in_any_order(frame.bin(), event.bin.as_slice())
-}
-
-/// Whether it doesn't say the same, or hasn't the entry's attachments in any order.
-fn is_altered(same: bool, frame: &Frame<'_>, event: &Event) -> bool
-    ensures { result ≡ not (same && are_same_in_any_order frame.now.bin event.now.bin) }
-{
-    !same || !are_same_in_any_order(frame.bin(), event.bin.as_slice())
-}
-
-/// The cause, where it holds.
-fn cause_if(holds: bool, cause: Cause) -> Option<Cause>
-    ensures { result ≡ cause_if holds cause }
-{
-    if holds { Some(cause) } else { None }
 }
 
 /// What an event says.

@@ -3,21 +3,20 @@ ghost use Rattle.std.specs.Prelude.{◌≡◌, ℕ, IfOk, List, map};
 ghost use Rattle.aud_maker.specs.Made.{IsMade};
 ghost use Rattle.aud_causes.specs.Differences.{asked_past, case_of, causes_by, difference_causes, doubled_causes, extra_in, lost_in, offset_of_another, other_session_before, swapped_causes};
 
-use crate::at_break::{first_came, first_taken, rooms_at_break};
+use crate::at_break::rooms_at_break;
 use crate::behind::node_behind;
 use crate::bodies::body_twice;
 use crate::cause::Cause;
+use crate::changed::{Session, leave_missing};
 use crate::extra::{
     before_birth, change_missing, extra_live, late_leave, log_ended_early, sent_after_end,
 };
 use crate::facts::{Facts, facts_of};
-use crate::leavable::leave_missing;
 use crate::list::{held, push_some};
 use crate::live::{
-    is_in_replay, is_live, is_taken_live, replay_includes_offset, sent_again, skipped_in_window,
-    stale_offset,
+    is_in_replay, is_live, is_taken_live, recovery_not_recorded, replay_includes_offset,
+    sent_again, skipped_in_window, stale_offset,
 };
-use crate::unrecorded::recovery_not_recorded;
 use aud_cert::Turn;
 use aud_check::Difference;
 use aud_client::{Recording, Stay};
@@ -96,8 +95,8 @@ fn doubled_causes(
         alloc,
         &[
             node_behind(logs, turns, facts),
-            sent_again(facts, first_taken(stays, facts)),
-            replay_includes_offset(facts, first_came(stays, facts)),
+            sent_again(stays, facts),
+            replay_includes_offset(stays, facts),
             stale_offset(facts),
             body,
             is_in_replay(facts).then_some(Cause::DoubledInReplay { first, again }),
@@ -142,15 +141,14 @@ fn lost_of(
     let stays = account.stays.as_slice();
     let at_break = rooms_at_break(alloc, recording, &account.cert, stays, facts)?;
     let came = positions_received(alloc, stays)?;
-    let leave = leave_missing(
-        alloc,
-        recording.logs(),
-        account.cert.pid.as_str(),
-        account.cert.turns.as_slice(),
-        account.cert.spans.as_slice(),
-        came.as_slice(),
-        facts,
-    )?;
+    let session = Session {
+        logs: recording.logs(),
+        pid: account.cert.pid.as_str(),
+        turns: account.cert.turns.as_slice(),
+        spans: account.cert.spans.as_slice(),
+        came: came.as_slice(),
+    };
+    let leave = leave_missing(alloc, session, facts)?;
     let frame = facts.parted.again;
     held(
         alloc,
@@ -185,9 +183,15 @@ fn extra_of(
     let why = why_not_due(logs, &account.cert, position);
     let pid = account.cert.pid.as_str();
     let turns = account.cert.turns.as_slice();
-    let spans = account.cert.spans.as_slice();
     let came = positions_received(alloc, stays)?;
-    let missing = change_missing(alloc, logs, pid, turns, spans, came.as_slice(), &why, facts)?;
+    let session = Session {
+        logs,
+        pid,
+        turns,
+        spans: account.cert.spans.as_slice(),
+        came: came.as_slice(),
+    };
+    let missing = change_missing(alloc, session, &why, facts)?;
     let behind = node_behind(logs, turns, facts);
     let left = late_leave(logs, pid, turns, facts.parted.position, &why);
     held(

@@ -7,12 +7,11 @@ ghost use Rattle.aud_causes.specs.Extra.{before_birth, change_missing, extra_liv
 
 use crate::behind::{first_of, last_of};
 use crate::cause::Cause;
-use crate::changed::{fits_with, fits_with_any};
+use crate::changed::{Session, fits_with, fits_with_any};
 use crate::facts::Facts;
 use crate::live::is_outside;
 use aud_cert::Turn;
 use aud_node::Logs;
-use aud_rooms::Span;
 use aud_session_facts::{NotDue, Reach, RecordPlace, first_reach, greatest_high, last_change_of};
 use aud_tap::{NodeRec, StreamRec, Text};
 use std::alloc::{AllocError, Global};
@@ -177,31 +176,28 @@ pub(crate) fn extra_live(
     }
 }
 
-/// Where the entry came in no replay, and what came from it on is what was due if the session of these turns and spans had
-/// joined one of its rooms before, or had left the one that it excepts. These are the positions of all that came.
+/// Where the entry came in no replay, and what came from it on is what was due if the session had joined one of its rooms
+/// before, or had left the one that it excepts.
 pub(crate) fn change_missing(
     alloc: Global,
-    logs: &Logs<'_>,
-    pid: &str,
-    turns: &[Turn<'_>],
-    spans: &[Span<'_>],
-    came: &[u64],
+    session: Session<'_, '_>,
     why: &Option<NotDue<'_>>,
     facts: Facts,
 ) -> Result<Option<Cause>, AllocError>
-    ensures { IfOk result (λ cause. cause ≡ change_missing logs.now pid.now turns.now spans.now
-        came.now (option_map reason_of why.now) facts) }
+    ensures { IfOk result (λ cause. cause ≡ change_missing session.entry.logs.now
+        session.entry.pid.now session.entry.turns.now session.entry.spans.now
+        session.entry.came.now (option_map reason_of why.now) facts) }
 {
     let position = facts.parted.position;
     let frame = facts.parted.again;
     match why {
         Some(NotDue::NoCommonRoom) if is_outside(facts) => {
-            let rooms = rooms_named(logs.stream().entry(position));
-            let fits = fits_with_any(alloc, logs, pid, turns, spans, came, true, position, rooms)?;
+            let rooms = rooms_named(session.logs.stream().entry(position));
+            let fits = fits_with_any(alloc, session, true, position, rooms)?;
             Ok(fits.then_some(Cause::JoinMissing { frame }))
         }
         Some(NotDue::Excepted { room }) if is_outside(facts) => {
-            let fits = fits_with(alloc, logs, pid, turns, spans, came, false, position, *room)?;
+            let fits = fits_with(alloc, session, false, position, *room)?;
             Ok(fits.then_some(Cause::LeaveMissing { frame }))
         }
         _ => Ok(None),

@@ -1,9 +1,14 @@
-//! Causes that go by the facts of a difference alone.
-ghost use Rattle.std.specs.Prelude.{◌≡◌};
-ghost use Rattle.aud_causes.specs.Delivery.{is_in_replay, is_live, is_outside, is_replayed, is_taken_live, replay_includes_offset, sent_again, skipped_in_window, stale_offset};
+//! Causes that go by the facts of a difference, and by what came in its stays.
+ghost use Rattle.std.specs.Prelude.{◌≡◌, IfOk, map};
+ghost use Rattle.aud_causes.specs.Delivery.{first_past, is_in_replay, is_live, is_outside, is_replayed, is_taken_live, replay_includes_offset, sent_again, skipped_in_window, stale_offset};
+ghost use Rattle.aud_causes.specs.Unrecorded.{recovery_not_recorded};
 
 use crate::cause::Cause;
 use crate::facts::{Facts, Replay};
+use crate::logs::recoveries;
+use aud_cert::Turn;
+use aud_client::{Frame, Stay};
+use std::alloc::{AllocError, Global};
 
 /// Whether the position is one that the node had to send again.
 pub(crate) fn is_replayed(replay: Replay, position: u64) -> bool
@@ -46,12 +51,14 @@ pub(crate) fn is_taken_live(facts: Facts) -> bool
     facts.matched && (!facts.recovered || past)
 }
 
-/// Where this is the first position past the cursor of the turn that came in the stay.
-pub(crate) fn sent_again(facts: Facts, past: Option<u64>) -> Option<Cause>
-    ensures { result ≡ sent_again facts past }
+/// Where the entry is the first past what was to be replayed that came in the stay, in which both frames stand.
+pub(crate) fn sent_again(stays: &[&Stay<'_>], facts: Facts) -> Option<Cause>
+    ensures { result ≡ sent_again (map (λ stay. stay.now) stays.now) facts }
 {
     let replay = facts.replay?;
-    if facts.earlier != facts.later || past != Some(facts.parted.position) {
+    let stay = stays.get(facts.later).copied()?;
+    let past = first_past(&stay.frames, replay.low)?;
+    if facts.earlier != facts.later || past != facts.parted.position {
         return None;
     }
     Some(Cause::SentAgainAfterReplay {
@@ -61,12 +68,22 @@ pub(crate) fn sent_again(facts: Facts, past: Option<u64>) -> Option<Cause>
     })
 }
 
-/// Where this is the position of the first frame in the later stay.
-pub(crate) fn replay_includes_offset(facts: Facts, came: Option<u64>) -> Option<Cause>
-    ensures { result ≡ replay_includes_offset facts came }
+/// The position of the first of the frames that is past this one.
+fn first_past(frames: &[Frame<'_>], low: u64) -> Option<u64>
+    ensures { result ≡ first_past low frames.now }
+{
+    let frame = frames.iter().find(|frame| low < frame.position)?;
+    Some(frame.position)
+}
+
+/// Where the first that came in the later stay was the entry again, after which the client had asked to go on.
+pub(crate) fn replay_includes_offset(stays: &[&Stay<'_>], facts: Facts) -> Option<Cause>
+    ensures { result ≡ replay_includes_offset (map (λ stay. stay.now) stays.now) facts }
 {
     let after = facts.asked?;
-    if facts.later <= facts.earlier || after != facts.parted.position || came != Some(after) {
+    let stay = stays.get(facts.later).copied()?;
+    let came = stay.frames.get(0)?.position;
+    if facts.later <= facts.earlier || after != facts.parted.position || came != after {
         return None;
     }
     Some(Cause::ReplayIncludesOffset {
@@ -101,4 +118,30 @@ pub(crate) fn skipped_in_window(facts: Facts) -> Option<Cause>
         after: replay.after,
         low: replay.low,
     })
+}
+
+/// Where the later frame came in a recovery, and the client was taken back more often in these stays than there are turns
+/// after the first: the first recovery past so many. It costs the stays.
+pub(crate) fn recovery_not_recorded(
+    alloc: Global,
+    turns: &[Turn<'_>],
+    stays: &[&Stay<'_>],
+    facts: Facts,
+) -> Result<Option<Cause>, AllocError>
+    ensures { IfOk result (λ cause. cause
+        ≡ recovery_not_recorded turns.now (map (λ stay. stay.now) stays.now) facts) }
+{
+    if !facts.recovered {
+        return Ok(None);
+    }
+    let came = recoveries(alloc, stays)?;
+    let turns = turns.len().saturating_sub(1);
+    match came.get(turns) {
+        Some(stay) => Ok(Some(Cause::RecoveryNotRecorded {
+            stay: *stay,
+            recoveries: came.len(),
+            turns,
+        })),
+        None => Ok(None),
+    }
 }

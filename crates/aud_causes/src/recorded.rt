@@ -1,7 +1,7 @@
 //! What a fault of the recording may come from: one for which the session has no certificate.
-ghost use Rattle.std.specs.Prelude.{◌≡◌, IfOk, map};
+ghost use Rattle.std.specs.Prelude.{◌≡◌, IfOk};
 ghost use Rattle.std.specs.List.{list_any};
-ghost use Rattle.aud_causes.specs.Recorded.{AreRecordedCauses, causes_of_turns, first_on, first_own, has_first_turn, is_node, is_of_first_turn, no_log_causes, open_not_recorded, order_causes, stays_of_client};
+ghost use Rattle.aud_causes.specs.Recorded.{AreRecordedCauses, first_on, first_own, has_first_turn, is_node, is_of_first_turn, no_log_causes, open_not_recorded, order_causes};
 
 use crate::cause::Cause;
 use crate::list::{held, push_some};
@@ -9,9 +9,9 @@ use crate::logs::order_cause;
 use crate::names::client_causes;
 use crate::turns::chain_causes;
 use aud_cert::Fault;
-use aud_client::{Recording, Stay};
+use aud_client::Recording;
 use aud_node::Logs;
-use aud_session_facts::{RecordPlace, turn_marks};
+use aud_session_facts::RecordPlace;
 use aud_tap::{NodeRec, Records, Tap};
 use std::alloc::{AllocError, Global};
 
@@ -30,7 +30,7 @@ pub(crate) fn recorded_causes(
 {
     match fault {
         Fault::NoLog => no_log_causes(alloc, recording.logs(), pid),
-        Fault::Chain => causes_of_turns(alloc, recording, client, pid),
+        Fault::Chain => chain_causes(alloc, recording, client, pid),
         Fault::Order => order_causes(alloc, recording.logs(), unordered),
         Fault::Client => client_causes(alloc, recording, pid),
         _ => Ok(Vec::new(alloc)),
@@ -105,41 +105,6 @@ fn first_own(logs: &Logs<'_>, pid: &str) -> Option<RecordPlace>
     let node = *logs.nodes_of(pid).first()?;
     let number = *logs.node(node)?.own(pid).first()?;
     Some(RecordPlace { node, number })
-}
-
-/// The causes of a break in the chain of the session's turns.
-fn causes_of_turns(
-    alloc: Global,
-    recording: &Recording<'_>,
-    client: Option<usize>,
-    pid: &str,
-) -> Result<Vec<Cause>, AllocError>
-    ensures { IfOk result (λ found. found.items
-        ≡ causes_of_turns recording.now client pid.now) }
-{
-    let logs = recording.logs();
-    let marks = turn_marks(alloc, logs, pid)?;
-    let stays = stays_of_client(alloc, recording, client, pid)?;
-    chain_causes(alloc, logs, pid, &marks, stays.as_slice())
-}
-
-/// The stays of the client's tap at this place whose reply names the session.
-fn stays_of_client<'r, 'a>(
-    alloc: Global,
-    recording: &'r Recording<'a>,
-    client: Option<usize>,
-    pid: &str,
-) -> Result<Vec<&'r Stay<'a>>, AllocError>
-    ensures { IfOk result (λ stays. map (λ stay. stay.now) stays.items
-        ≡ stays_of_client recording.now client pid.now) }
-{
-    let Some(client) = client else {
-        return Ok(Vec::new(alloc));
-    };
-    match recording.client(client) {
-        Some(transcript) => transcript.naming(alloc, pid),
-        None => Ok(Vec::new(alloc)),
-    }
 }
 
 /// The causes for which these records of nodes are out of order.

@@ -3,8 +3,7 @@ ghost use Rattle.std.specs.Prelude.{◌≡◌, ◌∷◌, [], IfOk, None, Some, 
 ghost use Rattle.aud_session_facts.specs.Recoveries.{stays_at};
 ghost use Rattle.aud_rows.specs.ClientPlaces.{AreOf};
 ghost use Rattle.aud_causes.specs.Found.{cause_seen, shown_causes};
-ghost use Rattle.aud_causes.specs.Refusals.{asked_causes, asked_too_early, first_open, got_of, last_break, never_broken, node_ended, offset_cause, refusal_causes, refused_causes, session_over, stay_causes};
-ghost use Rattle.aud_causes.specs.TakenBack.{marks_before};
+ghost use Rattle.aud_causes.specs.Refusals.{asked_causes, asked_too_early, first_open, got_of, last_break, never_broken, node_ended, offset_cause, refusal_causes, session_over, stay_causes};
 
 use crate::cause::Cause;
 use crate::found::{CauseFound, shown_causes};
@@ -90,7 +89,8 @@ fn got_of<'s>(stay: &'s Stay<'_>) -> &'s str
     }
 }
 
-/// The causes where the client asked for this in the stay with this number, and got this session.
+/// The causes where the client asked for this in the stay with this number, and got this session: by the records that begin
+/// and end the turns of the session that it asked for, before it did so.
 fn asked_causes(
     alloc: Global,
     logs: &Logs<'_>,
@@ -105,32 +105,15 @@ fn asked_causes(
     let pid = asked.pid.as_str();
     let marks = turn_marks(alloc, logs, pid)?;
     let opening = turn_marks(alloc, logs, got)?;
-    let offset = offset_cause(logs, asked);
-    let early = asked_too_early(logs, &marks, &opening);
     let before = marks_before(&marks, stays, number, pid);
-    refused_causes(alloc, logs, offset, early, before)
-}
-
-/// Those of the offset and of asking too early, and those by the records that begin and end the session's turns before
-/// the client asked.
-fn refused_causes(
-    alloc: Global,
-    logs: &Logs<'_>,
-    offset: Option<Cause>,
-    early: Option<Cause>,
-    marks: &[TurnMark],
-) -> Result<Vec<Cause>, AllocError>
-    ensures { IfOk result (λ found. found.items
-        ≡ refused_causes logs.now offset early marks.now) }
-{
     held(
         alloc,
         &[
-            offset,
-            session_over(marks),
-            node_ended(logs, marks),
-            never_broken(marks),
-            early,
+            offset_cause(logs, asked),
+            session_over(before),
+            node_ended(logs, before),
+            never_broken(before),
+            asked_too_early(logs, &marks, &opening),
         ],
     )
 }

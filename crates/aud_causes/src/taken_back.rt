@@ -2,7 +2,7 @@
 ghost use Rattle.std.specs.Prelude.{◌≡◌};
 ghost use Rattle.std.specs.List.{list_any};
 ghost use Rattle.aud_client.specs.Received.{stay_names_pid};
-ghost use Rattle.aud_causes.specs.TakenBack.{asks_for, count_asks, is_taken_back, marks_before};
+ghost use Rattle.aud_causes.specs.TakenBack.{count_asks, is_taken_back, marks_before};
 
 use crate::last_turn::last_turn;
 use aud_client::Stay;
@@ -42,20 +42,13 @@ fn count_asks(stays: &[Stay<'_>], pid: &str) -> usize
 {
     let mut count = 0;
     for stay in stays {
-        if asks_for(stay, pid) {
-            count += 1;
+        if let Some(asked) = &stay.asked {
+            if asked.pid.as_str() == pid {
+                count += 1;
+            }
         }
     }
     count
-}
-
-fn asks_for(stay: &Stay<'_>, pid: &str) -> bool
-    ensures { result ≡ asks_for pid.now stay.now }
-{
-    match &stay.asked {
-        Some(asked) => asked.pid.as_str() == pid,
-        None => false,
-    }
 }
 
 /// Whether the reply of one of these names the session.

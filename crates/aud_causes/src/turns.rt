@@ -1,7 +1,7 @@
 //! What a break in the chain of a session's turns may come from.
 ghost use Rattle.std.specs.Prelude.{◌≡◌, ◌++◌, ◌<◌, IfOk, OnOk, length, map};
 ghost use Rattle.std.specs.Option.{option_copied};
-ghost use Rattle.aud_causes.specs.Chain.{causes_of_marks, chain_causes};
+ghost use Rattle.aud_causes.specs.Chain.{causes_of_marks, causes_of_turns, stays_of_client};
 ghost use Rattle.aud_causes.specs.Private.Noting.{break_in, with_begin};
 ghost use Rattle.aud_causes.specs.Turns.{after_begin, begins_of, begun_turn, breaks_of, broken_turn, ended_by, ends_of, is_after_begin, is_untapped, missing_back, missing_break, missing_breaks, not_tapped, turn_count, unbegun};
 
@@ -11,50 +11,78 @@ use crate::last_turn::{is_broken, is_end, is_turn};
 use crate::list::push_some;
 use crate::logs::recoveries;
 use crate::twice::{is_as_often, opened_twice, push_twice};
-use aud_client::Stay;
+use aud_client::{Recording, Stay};
 use aud_node::Logs;
-use aud_session_facts::{Mark, RecordPlace, TurnMark};
+use aud_session_facts::{Mark, RecordPlace, TurnMark, turn_marks};
 use std::alloc::{AllocError, Global};
 
-/// The causes, where these are all records that begin or end turns of the session, and these the stays of its client's
-/// tap whose reply names it. Turns count from 0 to 65,535.
-pub(crate) fn chain_causes(
-    alloc: Global,
-    logs: &Logs<'_>,
-    pid: &str,
-    marks: &[TurnMark],
-    stays: &[&Stay<'_>],
-) -> Result<Vec<Cause>, AllocError>
-    ensures { IfOk result (λ found. found.items
-        ≡ chain_causes logs.now pid.now marks.now (map (λ stay. stay.now) stays.now)) }
-{
-    let begins = begins_of(alloc, marks)?;
-    let ended = ends_of(alloc, marks)?;
-    let came = recoveries(alloc, stays)?;
-    causes_of_marks(alloc, logs, pid, marks, &begins, &ended, &came)
+/// What a session's records say of its turns, up to the last that one of them begins.
+#[derive(Drop)]
+pub(crate) struct Turns {
+    /// Of each turn the first record that begins it.
+    pub begins: Vec<Option<RecordPlace>>,
+    /// Of each whether a record breaks it.
+    pub broken: Vec<bool>,
+    /// Of each whether the log of a record that begins it ends it there, by a `break` of whichever number, or the `gone`.
+    pub ended: Vec<bool>,
 }
 
-/// The causes, where these are the begins of the session's turns, whether their logs end them, and the recoveries of its
-/// client.
+/// The causes of a break in the chain of the session's turns, whose client's tap is at this place, if it has one.
+pub(crate) fn chain_causes(
+    alloc: Global,
+    recording: &Recording<'_>,
+    client: Option<usize>,
+    pid: &str,
+) -> Result<Vec<Cause>, AllocError>
+    ensures { IfOk result (λ found. found.items ≡ causes_of_turns recording.now client pid.now) }
+{
+    let logs = recording.logs();
+    let marks = turn_marks(alloc, logs, pid)?;
+    let stays = stays_of_client(alloc, recording, client, pid)?;
+    let came = recoveries(alloc, &stays)?;
+    let turns = turns_of(alloc, &marks)?;
+    causes_of_marks(alloc, logs, pid, &marks, &turns, &came)
+}
+
+/// The stays of the client's tap at this place whose reply names the session.
+fn stays_of_client<'r, 'a>(
+    alloc: Global,
+    recording: &'r Recording<'a>,
+    client: Option<usize>,
+    pid: &str,
+) -> Result<Vec<&'r Stay<'a>>, AllocError>
+    ensures { IfOk result (λ stays. map (λ stay. stay.now) stays.items
+        ≡ stays_of_client recording.now client pid.now) }
+{
+    let Some(client) = client else {
+        return Ok(Vec::new(alloc));
+    };
+    match recording.client(client) {
+        Some(transcript) => transcript.naming(alloc, pid),
+        None => Ok(Vec::new(alloc)),
+    }
+}
+
+/// The causes, where these are all records that begin or end turns of the session, what they say of its turns, and the
+/// recoveries of its client. Turns count from 0 to 65,535.
 fn causes_of_marks(
     alloc: Global,
     logs: &Logs<'_>,
     pid: &str,
     marks: &[TurnMark],
-    begins: &[Option<RecordPlace>],
-    ended: &[bool],
+    turns: &Turns,
     came: &[usize],
 ) -> Result<Vec<Cause>, AllocError>
     ensures { IfOk result (λ found. found.items
-        ≡ causes_of_marks logs.now pid.now marks.now begins.now ended.now came.now) }
+        ≡ causes_of_marks logs.now pid.now marks.now turns.now.begins.items turns.now.broken.items
+        turns.now.ended.items came.now) }
 {
-    let broken = breaks_of(alloc, marks)?;
     let mut found = Vec::new(alloc);
-    push_some(&mut found, not_tapped(begins, &broken))?;
-    push_some(&mut found, missing_back(marks, begins))?;
-    push_missing(&mut found, begins, &broken, ended, came)?;
+    push_some(&mut found, not_tapped(&turns.begins, &turns.broken))?;
+    push_some(&mut found, missing_back(marks, &turns.begins))?;
+    push_missing(&mut found, turns, came)?;
     push_cleared(logs, pid, &mut found)?;
-    push_twice(&mut found, begins, ended, is_as_often(marks, came), marks)?;
+    push_twice(&mut found, turns, is_as_often(marks, came), marks)?;
     push_some(&mut found, opened_twice(marks))?;
     Ok(found)
 }
@@ -95,15 +123,26 @@ pub(crate) fn broken_turn(mark: Mark) -> Option<u16>
     }
 }
 
-/// Of each turn the first record that begins it.
-fn begins_of(alloc: Global, marks: &[TurnMark]) -> Result<Vec<Option<RecordPlace>>, AllocError>
-    ensures { IfOk result (λ begins. begins.items ≡ begins_of marks.now) }
+/// What these records say of the turns.
+fn turns_of(alloc: Global, marks: &[TurnMark]) -> Result<Turns, AllocError>
+    ensures begins { IfOk result (λ turns. turns.begins.items ≡ begins_of marks.now) }
+    ensures broken { IfOk result (λ turns. turns.broken.items ≡ breaks_of marks.now) }
+    ensures ended { IfOk result (λ turns. turns.ended.items ≡ ends_of marks.now) }
 {
-    let mut begins = vec![in alloc; None; turn_count(marks)]?;
-    for mark in marks {
+    let count = turn_count(marks);
+    let mut begins = vec![in alloc; None; count]?;
+    let mut broken = vec![in alloc; false; count]?;
+    let mut ended = vec![in alloc; false; count]?;
+    for (number, mark) in marks.iter().enumerate() {
         note_begin(&mut begins, *mark);
+        note_turn(&mut broken, broken_turn(mark.mark));
+        note_turn(&mut ended, ended_by(marks, number));
     }
-    Ok(begins)
+    Ok(Turns {
+        begins,
+        broken,
+        ended,
+    })
 }
 
 /// Notes the record, if it is the first that begins its turn.
@@ -119,17 +158,6 @@ fn note_begin(begins: &mut Vec<Option<RecordPlace>>, mark: TurnMark)
     }
 }
 
-/// Of each turn whether a record breaks it.
-fn breaks_of(alloc: Global, marks: &[TurnMark]) -> Result<Vec<bool>, AllocError>
-    ensures { IfOk result (λ broken. broken.items ≡ breaks_of marks.now) }
-{
-    let mut broken = vec![in alloc; false; turn_count(marks)]?;
-    for mark in marks {
-        note_turn(&mut broken, broken_turn(mark.mark));
-    }
-    Ok(broken)
-}
-
 /// Notes that this holds of the turn, if it is one of these.
 fn note_turn(turns: &mut Vec<bool>, turn: Option<u16>)
     ensures { turns.new.items ≡ break_in turn turns.old.items }
@@ -141,17 +169,6 @@ fn note_turn(turns: &mut Vec<bool>, turn: Option<u16>)
     if turn < turns.len() {
         turns[turn] = true;
     }
-}
-
-/// Of each turn whether the log of a record that begins it ends it there, by a `break` of whichever number, or the `gone`.
-fn ends_of(alloc: Global, marks: &[TurnMark]) -> Result<Vec<bool>, AllocError>
-    ensures { IfOk result (λ ended. ended.items ≡ ends_of marks.now) }
-{
-    let mut ended = vec![in alloc; false; turn_count(marks)]?;
-    for number in 0..marks.len() {
-        note_turn(&mut ended, ended_by(marks, number));
-    }
-    Ok(ended)
 }
 
 /// The turn that the record with this number begins, if the next one of the session in its log ends a turn.
@@ -234,38 +251,29 @@ fn is_after_begin(turn: usize, broken: bool, mark: Mark) -> bool
 }
 
 /// Adds of each turn that the next one begins, though no record breaks it, and its log doesn't end it.
-fn push_missing(
-    found: &mut Vec<Cause>,
-    begins: &[Option<RecordPlace>],
-    broken: &[bool],
-    ended: &[bool],
-    came: &[usize],
-) -> Result<(), AllocError>
+fn push_missing(found: &mut Vec<Cause>, turns: &Turns, came: &[usize]) -> Result<(), AllocError>
     ensures { OnOk result (found.new.items
-        ≡ found.old.items ++ missing_breaks begins.now broken.now ended.now came.now) }
+        ≡ found.old.items ++ missing_breaks turns.now.begins.items turns.now.broken.items
+        turns.now.ended.items came.now) }
 {
-    for turn in 0..begins.len() {
-        push_some(found, missing_break(begins, broken, ended, came, turn))?;
+    for turn in 0..turns.begins.len() {
+        push_some(found, missing_break(turns, came, turn))?;
     }
     Ok(())
 }
 
 /// The same of this turn, where these are the client's recoveries: the one after the turn has its number, where they match
 /// the turns.
-fn missing_break(
-    begins: &[Option<RecordPlace>],
-    broken: &[bool],
-    ended: &[bool],
-    came: &[usize],
-    turn: usize,
-) -> Option<Cause>
-    requires { turn < length begins.now }
-    ensures { result ≡ missing_break begins.now broken.now ended.now came.now turn }
+fn missing_break(turns: &Turns, came: &[usize], turn: usize) -> Option<Cause>
+    requires { turn < length turns.now.begins.items }
+    ensures { result ≡ missing_break turns.now.begins.items turns.now.broken.items
+        turns.now.ended.items came.now turn }
 {
+    let begins = turns.begins.as_slice();
     match (
         begins.get(turn),
-        broken.get(turn),
-        ended.get(turn),
+        turns.broken.get(turn),
+        turns.ended.get(turn),
         begins.get(turn + 1),
     ) {
         (Some(Some(begin)), Some(false), Some(false), Some(Some(back))) => {

@@ -1,9 +1,10 @@
 //! A turn for which two records take the session back.
-ghost use Rattle.std.specs.Prelude.{◌≡◌, ◌++◌, OnOk};
-ghost use Rattle.aud_causes.specs.Twice.{causes_of_twice, is_as_often, is_written_again, opened_twice, turn_not_stored, twice_at, twice_by, twice_causes};
+ghost use Rattle.std.specs.Prelude.{◌≡◌, ◌++◌, None, OnOk};
+ghost use Rattle.aud_causes.specs.Twice.{causes_of_twice, is_as_often, is_written_again, opened_twice, turn_not_stored, twice_by, twice_causes};
 
 use crate::cause::Cause;
 use crate::list::push_some;
+use crate::turns::Turns;
 use aud_session_facts::{Mark, RecordPlace, TurnMark};
 use std::alloc::AllocError;
 
@@ -15,20 +16,24 @@ pub struct Twice {
     pub again: RecordPlace,
 }
 
-/// Adds the causes of each of these records that takes the session back for a turn that another one begins, where these
-/// are the turns' first begins, and whether their logs end them; and this whether the client came back as often.
+/// Adds the causes of each of these records that takes the session back for a turn that another one begins, where this is
+/// what they say of the turns, and this whether the client came back as often.
 pub(crate) fn push_twice(
     found: &mut Vec<Cause>,
-    begins: &[Option<RecordPlace>],
-    ended: &[bool],
+    turns: &Turns,
     as_often: bool,
     marks: &[TurnMark],
 ) -> Result<(), AllocError>
     ensures { OnOk result (found.new.items
-        ≡ found.old.items ++ twice_causes begins.now ended.now as_often marks.now) }
+        ≡ found.old.items ++ twice_causes turns.now.begins.items turns.now.ended.items
+        as_often None marks.now) }
 {
-    for number in 0..marks.len() {
-        push_causes(found, ended, as_often, twice_at(begins, marks, number))?;
+    let begins = turns.begins.as_slice();
+    let ended = turns.ended.as_slice();
+    let mut before = None;
+    for mark in marks {
+        push_causes(found, ended, as_often, twice_by(begins, before, *mark))?;
+        before = Some(*mark);
     }
     Ok(())
 }
@@ -44,18 +49,8 @@ pub(crate) fn is_as_often(marks: &[TurnMark], came: &[usize]) -> bool
     backs.count() <= came.len()
 }
 
-/// The turn for which the record with this number takes the session back, where another one is its first begin.
-fn twice_at(begins: &[Option<RecordPlace>], marks: &[TurnMark], number: usize) -> Option<Twice>
-    ensures { result ≡ twice_at begins.now marks.now number }
-{
-    let before = match number {
-        0 => None,
-        _ => marks.get(number - 1).copied(),
-    };
-    twice_by(begins, before, *marks.get(number)?)
-}
-
-/// The same of this record, and the one before it; none where that is this one, written twice.
+/// The turn for which the record takes the session back, where another one is its first begin; none where the one before
+/// it in its log is this one, written twice.
 fn twice_by(
     begins: &[Option<RecordPlace>],
     before: Option<TurnMark>,

@@ -23,10 +23,11 @@ use Rattle.aud_causes.specs.declared.causes.Noted.{Noted}
 use Rattle.aud_causes.specs.declared.found.CauseFound.{CauseFound}
 use Rattle.aud_causes.specs.Candidates.{are_candidates, is_candidate}
 use Rattle.aud_causes.specs.Causes.{AreFound, AreToldCauses, has_others}
+use Rattle.aud_causes.specs.Chain.{stays_of_client}
 use Rattle.aud_causes.specs.Differences.{Case, case_of}
 use Rattle.aud_causes.specs.Found.{CauseSeen, cause_seen, shown_among}
 use Rattle.aud_causes.specs.Judged.{causes_found, judged_causes}
-use Rattle.aud_causes.specs.Recorded.{AreRecordedCauses, stays_of_client}
+use Rattle.aud_causes.specs.Recorded.{AreRecordedCauses}
 use Rattle.aud_causes.specs.Texts.{frame_of}
 use Rattle.aud_causes.proofs.Listed.Each.{is_listed}
 use Rattle.aud_causes.proofs.Listed.OfRecording.{chain_listed, client_listed, no_log_listed, order_listed}

@@ -21,14 +21,15 @@ use Rattle.aud_session_facts.specs.declared.place.RecordPlace.{RecordPlace}
 use Rattle.aud_causes.specs.declared.cause.Cause.{Cause}
 use Rattle.aud_causes.specs.declared.cause.Cause.TheVariants.{ClientTapHasNoPackets, EntriesSkippedByNode, EntryTakenAgain, MissingBack, NoClientTap, NodeNotTapped, OpenedTwice, OpenNotRecorded, RecoveredTwice, ReplyMissing, TurnNotStored}
 use Rattle.aud_causes.specs.declared.twice.Twice.{Twice}
-use Rattle.aud_causes.specs.Bare.{bare_place, first_bare, tap_without_packets}
+use Rattle.aud_causes.specs.Bare.{bare_place, tap_without_packets}
 use Rattle.aud_causes.specs.Chain.{chain_causes}
-use Rattle.aud_causes.specs.Cleared.{broke_by, cleared_after_break, cleared_at, cleared_by, cleared_in, cleared_on, first_cleared, place_on}
+use Rattle.aud_causes.specs.Cleared.{broke_by, cleared_after_break, cleared_at, cleared_by, cleared_on, first_cleared, place_on}
+use Rattle.aud_causes.specs.Delivery.{cause_if}
 use Rattle.aud_causes.specs.Logs.{first_cause, later_cause, order_cause, record_cause, recoveries, take_cause, taken_again, takes_cause, unknown}
-use Rattle.aud_causes.specs.Names.{client_causes, reply_missing, unnamed_from}
-use Rattle.aud_causes.specs.Recorded.{first_own, has_first_turn, is_node, no_log_causes, open_not_recorded, opener_not_tapped, order_causes}
+use Rattle.aud_causes.specs.Names.{client_causes, unnamed_from}
+use Rattle.aud_causes.specs.Recorded.{first_own, has_first_turn, is_node, no_log_causes, open_not_recorded, order_causes}
 use Rattle.aud_causes.specs.Turns.{after_begin, begins_of, breaks_of, ends_of, is_broken, is_untapped, missing_back, missing_break, missing_breaks, missing_by, missing_causes, not_tapped, recovery_after, turn_count, unbegun}
-use Rattle.aud_causes.specs.Twice.{causes_of_twice, is_as_often, is_open, is_so, open_with, opened_after, opened_twice, recovered_twice, second_open, turn_not_stored, twice_at, twice_causes}
+use Rattle.aud_causes.specs.Twice.{causes_of_twice, is_as_often, is_open, is_so, open_with, opened_after, opened_twice, second_open, turn_not_stored, twice_by, twice_causes}
 use Rattle.aud_causes.proofs.Listed.Each.{OfSome, is_listed, of_both, of_choice, of_each, of_held, of_if, of_list, of_map, of_or, of_then}
 
 -- ---- NOLOG
@@ -43,8 +44,9 @@ open_listed c None = of_if in_no_log (list_any is_node c.taps) (OpenNotRecorded 
 
 pub no_log_listed : (c : Cluster) (pid : Text) → list_all in_no_log (no_log_causes c pid) ≡ true
 no_log_listed c pid =
-    of_held in_no_log (open_not_recorded c (first_own c pid) ∷ opener_not_tapped c pid ∷ [])
-    (open_listed c (first_own c pid), (of_if in_no_log (not (has_first_turn c pid (own_places c pid))) (NodeNotTapped 0) refl, tt))
+    let untapped = not (has_first_turn c pid (own_places c pid)) in
+    of_held in_no_log (open_not_recorded c (first_own c pid) ∷ cause_if untapped (NodeNotTapped 0) ∷ [])
+    (open_listed c (first_own c pid), (of_if in_no_log untapped (NodeNotTapped 0) refl, tt))
 
 -- ---- CHAIN
 
@@ -94,22 +96,31 @@ first_cleared_listed log node broke (number ∷ numbers) =
     (of_then in_chain (λ (b : RecordPlace). cleared_by b place r) (λ b. cleared_by_listed b place r) broke)
     (first_cleared_listed log node (broke_by place r broke) numbers)
 
-cleared_listed : (c : Cluster) (pid : Text) (nodes : List ℕ) → list_all in_chain (cleared_in c pid nodes) ≡ true
-cleared_listed c pid nodes =
+cleared_listed : (c : Cluster) (pid : Text) → list_all in_chain (cleared_after_break c pid) ≡ true
+cleared_listed c pid =
     of_each in_chain (λ node. option_to_list (cleared_on c pid node))
     (λ node.
     of_list in_chain (cleared_on c pid node)
     (of_then in_chain (λ (tap : NodeTap). first_cleared tap.recs node None (own_numbers tap.recs pid))
     (λ tap. first_cleared_listed tap.recs node None (own_numbers tap.recs pid))
     (node_at c node)))
-    nodes
+    (own_places c pid)
 
-twice_listed : (ended : List Bool) (as_often : Bool) (twice : Option Twice) → list_all in_chain (causes_of_twice ended as_often twice) ≡ true
-twice_listed ended as_often None = refl
-twice_listed ended as_often (Some t) =
+of_twice_listed : (ended : List Bool) (as_often : Bool) (twice : Option Twice) → list_all in_chain (causes_of_twice ended as_often twice) ≡ true
+of_twice_listed ended as_often None = refl
+of_twice_listed ended as_often (Some t) =
     let stored = of_if in_chain (as_often || is_so (slice_get ended t.turn)) (TurnNotStored t.turn t.first t.again) refl in
-    let recovered = of_if in_chain (not (nat_eq t.first.node t.again.node)) (RecoveredTwice t.turn t.first t.again) refl in
-    of_held in_chain (turn_not_stored ended as_often t ∷ recovered_twice t ∷ []) (stored, (recovered, tt))
+    let apart = not (nat_eq t.first.node t.again.node) in
+    let twice : Cause = RecoveredTwice t.turn t.first t.again in
+    of_held in_chain (turn_not_stored ended as_often t ∷ cause_if apart twice ∷ []) (stored, (of_if in_chain apart twice refl, tt))
+
+twice_listed : (begins : List (Option RecordPlace)) (ended : List Bool) (as_often : Bool) (before : Option TurnMark) (marks : List TurnMark)
+    → list_all in_chain (twice_causes begins ended as_often before marks) ≡ true
+twice_listed begins ended as_often before [] = refl
+twice_listed begins ended as_often before (m ∷ marks) =
+    of_both in_chain (causes_of_twice ended as_often (twice_by begins before m)) (twice_causes begins ended as_often (Some m) marks)
+    (of_twice_listed ended as_often (twice_by begins before m))
+    (twice_listed begins ended as_often (Some m) marks)
 
 opened_after_listed : (first : Option RecordPlace) (m : TurnMark) → OfSome in_chain (opened_after first m)
 opened_after_listed first m =
@@ -125,17 +136,15 @@ second_open_listed first (m ∷ marks) =
 pub chain_listed : (c : Cluster) (pid : Text) (marks : List TurnMark) (stays : List StaySeen) → list_all in_chain (chain_causes c pid marks stays) ≡ true
 chain_listed c pid marks stays =
     let as_often = is_as_often marks (recoveries stays) in
-    let twice = twice_causes (begins_of marks) (ends_of marks) as_often marks in
+    let twice = twice_causes (begins_of marks) (ends_of marks) as_often None marks in
     let missing = missing_causes marks (begins_of marks) (breaks_of marks) (ends_of marks) (recoveries stays) in
     let cleared = cleared_after_break c pid in
     of_both in_chain (missing ++ cleared ++ twice) (option_to_list (opened_twice marks))
     (of_both in_chain (missing ++ cleared) twice
     (of_both in_chain missing cleared
     (missing_listed marks (begins_of marks) (breaks_of marks) (ends_of marks) (recoveries stays))
-    (cleared_listed c pid (own_places c pid)))
-    (of_each in_chain (λ number. causes_of_twice (ends_of marks) as_often (twice_at (begins_of marks) marks number))
-    (λ number. twice_listed (ends_of marks) as_often (twice_at (begins_of marks) marks number))
-    (numbers_from 0 (length marks))))
+    (cleared_listed c pid))
+    (twice_listed (begins_of marks) (ends_of marks) as_often None marks))
     (of_list in_chain (opened_twice marks) (second_open_listed None marks))
 
 -- ---- ORDER
@@ -193,12 +202,12 @@ in_client = is_listed fault.Client
 
 without_listed : (c : Cluster) (pid : Text) → OfSome in_client (tap_without_packets c pid)
 without_listed c pid =
-    of_choice in_client (nat_eq (turn_count 0 (turn_marks c pid)) 1) (first_bare c.taps) None
+    of_choice in_client (nat_eq (turn_count 0 (turn_marks c pid)) 1) (option_map ClientTapHasNoPackets (bare_place c.taps)) None
     (of_map in_client ClientTapHasNoPackets (λ client. refl) (bare_place c.taps)) tt
 
 pub client_listed : (c : Cluster) (pid : Text) (count : ℕ) → list_all in_client (client_causes c pid count) ≡ true
 client_listed c pid zero =
-    of_held in_client (Some NoClientTap ∷ reply_missing c ∷ tap_without_packets c pid ∷ [])
+    of_held in_client (Some NoClientTap ∷ option_map ReplyMissing (unnamed_from c 0 c.taps) ∷ tap_without_packets c pid ∷ [])
     (refl, (of_map in_client ReplyMissing (λ client. refl) (unnamed_from c 0 c.taps), (without_listed c pid, tt)))
 client_listed c pid (suc zero) = refl
 client_listed c pid (suc (suc more)) = refl

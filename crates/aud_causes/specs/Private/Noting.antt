@@ -2,7 +2,7 @@
 use Rattle.std.specs.Prelude.{ℕ, Bool, true, List, length, set, Option, Some, None, if◌then◌else◌, nat_lt, slice_get}
 use Rattle.aud_session_facts.specs.declared.marks.TurnMark.{TurnMark}
 use Rattle.aud_session_facts.specs.declared.place.RecordPlace.{RecordPlace}
-use Rattle.aud_causes.specs.Turns.{begun_turn, broken_turn}
+use Rattle.aud_causes.specs.Turns.{begun_turn}
 
 -- the begins, where this is the first record that begins the turn, if the turn is one of them and none is noted
 abbrev pub begin_at : ℕ → RecordPlace → Option (Option RecordPlace) → List (Option RecordPlace) → List (Option RecordPlace)
@@ -22,7 +22,3 @@ with_begin m begins = begin_in (begun_turn m.mark) m.place begins
 abbrev pub break_in : Option ℕ → List Bool → List Bool
 break_in None broken = broken
 break_in (Some turn) broken = if nat_lt turn (length broken) then set broken turn true else broken
-
--- with this record noted, if it breaks a turn
-abbrev pub with_break : TurnMark → List Bool → List Bool
-with_break m broken = break_in (broken_turn m.mark) broken

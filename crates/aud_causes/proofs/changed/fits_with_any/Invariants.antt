@@ -5,5 +5,5 @@ use Rattle.aud_causes.proofs.changed.fits_with_any.Given as goal
 -- the rooms to come give it
 abbrev pub invariant-loop-room : goal.invariant-loop-room
 invariant-loop-room l =
-    fits_with_any l.logs l.pid l.turns l.spans l.came l.joined l.position (drop l.room-index l.rooms)
-    ≡ fits_with_any l.logs l.pid l.turns l.spans l.came l.joined l.position l.rooms
+    fits_with_any l.session.logs.now l.session.pid.now l.session.turns.now l.session.spans.now l.session.came.now l.joined l.position (drop l.room-index l.rooms)
+    ≡ fits_with_any l.session.logs.now l.session.pid.now l.session.turns.now l.session.spans.now l.session.came.now l.joined l.position l.rooms

@@ -2,7 +2,7 @@ use Rattle.std.proofs.Common.{◌∙◌, ◌++◌, ap, map, option_to_list}
 use Rattle.aud_session_facts.specs.declared.account.Account.{Account}
 use Rattle.aud_causes.specs.Facts.{facts_of}
 use Rattle.aud_causes.specs.Unrecorded.{recovery_not_recorded}
-use Rattle.aud_causes.specs.Differences.{all_causes, case_of}
+use Rattle.aud_causes.specs.Differences.{case_of, causes_by}
 use Rattle.aud_causes.proofs.delivery.difference_causes.Goals as goal
 
 pub returns : goal.returns
@@ -18,4 +18,6 @@ returns c =
     λ made.
     c.in_ok-push_some.ensures
     ∙ (λ i. c.in_ok-found.ensures made i ++ option_to_list (unrecorded_is i))
-    ∙ (λ i. all_causes (case_of cluster a numbers made) c.args.difference (facts_are i))
+    ∙ (λ i.
+    let case = case_of cluster a numbers made in
+    causes_by case c.args.difference (facts_are i) ++ option_to_list (recovery_not_recorded case.seen case.stays (facts_are i)))

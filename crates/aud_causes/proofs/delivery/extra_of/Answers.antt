@@ -23,9 +23,9 @@ returns c =
     subst (λ l. (made : IsMade l a.cert.pid a.cert) → why ≡ why_not_due l made.who made.turns c.args.position) c.logs-logs.ensures c.why_not_due-why.ensures.why in
     let stays_are = c.as_slice-stays.ensures.value in
     let turns_are = c.as_slice-turns.ensures.value ∙ ap (λ (x : Account). x.cert.turns) c.account.view_is in
-    let spans_are = c.as_slice-spans.ensures.value ∙ ap (λ (x : Account). x.cert.spans) c.account.view_is in
-    let came_is = c.as_slice.ensures.value ∙ c.in_ok-came.ensures ∙ ap (λ ss. positions_received (map (λ stay. stay.now) ss)) stays_are in
-    let due_is = c.as_slice-2.ensures.value ∙ ap (λ (x : Account). x.due.items) c.account.view_is in
+    let spans_are = c.as_slice.ensures.value ∙ ap (λ (x : Account). x.cert.spans) c.account.view_is in
+    let came_is = c.as_slice-2.ensures.value ∙ c.in_ok-came.ensures ∙ ap (λ ss. positions_received (map (λ stay. stay.now) ss)) stays_are in
+    let due_is = c.as_slice-3.ensures.value ∙ ap (λ (x : Account). x.due.items) c.account.view_is in
     let logs_are = c.logs-logs.ensures in
     let behind_is = c.node_behind-behind.ensures ∙ (λ i. node_behind (logs_are i) (turns_are i) f) in
     IfOk-weaker c.held.result

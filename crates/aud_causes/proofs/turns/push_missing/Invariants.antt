@@ -6,4 +6,4 @@ use Rattle.aud_causes.proofs.turns.push_missing.Given as goal
 
 -- those of the turns so far come after what was there
 abbrev pub invariant-loop-turn : goal.invariant-loop-turn
-invariant-loop-turn l = l.found.items ≡ l.initial.found.items ++ flat_map (λ turn. option_to_list (missing_break l.begins l.broken l.ended l.came turn)) (numbers_from 0 l.turn)
+invariant-loop-turn l = l.found.items ≡ l.initial.found.items ++ flat_map (λ turn. option_to_list (missing_break l.turns.begins.items l.turns.broken.items l.turns.ended.items l.came turn)) (numbers_from 0 l.turn)

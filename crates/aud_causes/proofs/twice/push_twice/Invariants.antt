@@ -1,10 +1,9 @@
-use Rattle.std.proofs.Common.{◌≡◌, ◌++◌, flat_map}
-use Rattle.aud_base.specs.Lists.{numbers_from}
-use Rattle.aud_causes.specs.Twice.{causes_of_twice, twice_at}
+use Rattle.std.proofs.Common.{◌≡◌, ◌++◌, None, drop}
+use Rattle.aud_causes.specs.Twice.{twice_causes}
 use Rattle.aud_causes.proofs.twice.push_twice.Given as goal
 
--- those of the records so far come after what was there
-abbrev pub invariant-loop-number : goal.invariant-loop-number
-invariant-loop-number l =
-    l.found.items
-    ≡ l.initial.found.items ++ flat_map (λ number. causes_of_twice l.ended l.as_often (twice_at l.begins l.marks number)) (numbers_from 0 l.number)
+-- those so far, with those of the records to come, come after what was there
+abbrev pub invariant-loop-mark : goal.invariant-loop-mark
+invariant-loop-mark l =
+    l.found.items ++ twice_causes l.turns.begins.items l.turns.ended.items l.as_often l.before (drop l.mark-index l.marks)
+    ≡ l.initial.found.items ++ twice_causes l.turns.begins.items l.turns.ended.items l.as_often None l.marks
