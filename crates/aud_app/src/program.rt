@@ -20,9 +20,9 @@ use std::time::Clock;
 /// Reads the input to its end, decides, and only then writes. The input is read in pieces of at most 65,536 bytes, or
 /// for more than one thread of at most 4 MiB, and each line is dropped once it was read, but for certificates; it is
 /// read to its end where a line is refused too. An audit starts `options.workers` workers, each in a thread of its own;
-/// all else is shared out among at most so many threads, this one among them, as `aud_base::try_map` says. How many
-/// they are changes nothing in what is written, and nor do the keys, by which names are looked up: whoever picked the
-/// names of the input is not to know them.
+/// all else is shared out among at most so many threads, this one among them, as `aud_base::try_map` says, but that one
+/// more cuts the next piece into lines. How many they are changes nothing in what is written, and nor do the keys, by
+/// which names are looked up: whoever picked the names of the input is not to know them.
 ///
 /// The process is to end after it: memory of what was read, and of what was made of it, isn't given back. A service
 /// calls the crates below instead (docs/EMBED.md).

@@ -161,8 +161,9 @@ fn explained<'o, H: Threads + Wait + Clock + Sync, R: Read>(
 /// one in which all is well.
 ///
 /// An audit of all sessions starts `options.workers` workers, each in a thread of its own; all else is shared out among
-/// at most so many threads, this one among them. How many they are changes nothing in what is written but the seconds,
-/// and nor do the keys, by which names are looked up: whoever picked the names of the input is not to know them.
+/// at most so many threads, this one among them, but that one more cuts the next piece into lines. How many they are
+/// changes nothing in what is written but the seconds, and nor do the keys, by which names are looked up: whoever picked
+/// the names of the input is not to know them.
 ///
 /// The recording is not dropped, since a program that explains ends soon.
 pub fn explain<'o, H: Threads + Wait + Clock + Sync, R: Read, W: Write>(

@@ -1,5 +1,5 @@
 -- The lines that a splitter has given so far, of an input that begins with some bytes.
-use Rattle.std.proofs.Common.{◌≡◌, ℕ, zero, suc, ◌+◌, ◌<◌, ◌==◌, List, [], ◌∷◌, ◌++◌, length, Bool, true, false, not, cond, ◌⊎◌, inl, inr, Option, Some, None, option_map, Result, Ok, Err, count_by, refl, sym, ap, ◌∙◌, subst, arith, append_assoc, append-nil, length-append, zero-add}
+use Rattle.std.proofs.Common.{◌≡◌, ℕ, zero, suc, ◌+◌, ◌<◌, ◌==◌, List, [], ◌∷◌, ◌++◌, length, Bool, true, false, not, cond, ◌⊎◌, inl, inr, Option, Some, None, option_map, count_by, refl, sym, ap, ◌∙◌, subst, arith, append_assoc, append-nil, length-append, zero-add}
 use Rattle.std.specs.Prelude.{slice_get}
 use Rattle.std.specs.List.{cons_option}
 use Rattle.std.proofs.lemmas.List.Sums.{sum_by-append, sum_by-cons}
@@ -9,8 +9,10 @@ use Rattle.aud_reader.specs.declared.fault.InputCode.{InputCode}
 use Rattle.aud_reader.specs.declared.fault.InputCode.TheVariants.{LineTooLong}
 use Rattle.aud_reader.specs.declared.fault.ReadFault.{ReadFault}
 use Rattle.aud_reader.specs.declared.fault.ReadFault.TheVariants.{Input, Memory}
-use Rattle.aud_reader.specs.Lines.{IsFront, IsPartial, Lines, Split, after_lines, is_too_long, line_pieces, lines_from, lines_of, lines_to_come, onto_first, result_of, without_return}
-use Rattle.aud_reader.proofs.LinesLemmas.{none_of, pieces_of-last, pieces_of-line, some_of}
+use Rattle.aud_reader.specs.Lines.{IsFront, IsPartial, Lines, Split, after_lines, is_too_long, line_pieces, lines_from, lines_of, lines_to_come, onto_first, without_return}
+use Rattle.aud_reader.proofs.LinesLemmas.{pieces_of-last, pieces_of-line}
+use Rattle.aud_input.specs.declared.index.LineIndex.{LineIndex}
+use Rattle.aud_input.specs.Private.Going.{Cuts, Notes, reader_of}
 use Rattle.aud_input.specs.Reader.{AreAmong, GoesOn, HasLines, Holds, HoldsRefused, InputSoFar, IsIn, PartsSoFar}
 use Rattle.aud_input.specs.Sources.{is_begun}
 use Rattle.aud_input.specs.TapLines.{Indexed, TapLines, last_number, lines_noted, named_at, named_in, no_lines, noted, with_line, with_lines}
@@ -143,7 +145,7 @@ at-front [] b line i e = absurd (none-some line e)
 at-front (x ∷ a) b line zero e = e
 at-front (x ∷ a) b line (suc i) e = at-front a b line i e
 
-in-front : (a b : List Line) (line : Line) → IsIn line a → IsIn line (a ++ b)
+pub in-front : (a b : List Line) (line : Line) → IsIn line a → IsIn line (a ++ b)
 in-front a b line is = (is.0, at-front a b line is.0 is.1)
 
 in-after : (a b : List Line) (line : Line) → IsIn line b → IsIn line (a ++ b)
@@ -209,14 +211,11 @@ holds-some waiting e held n code same other =
     subst (λ f. Holds f waiting) is (held (λ memory. cc))
 
 -- a line that is too long doesn't
-pub holds-long : (waiting : List Line) (s t : Split) (piece : List ℕ) (e : ReadFault) → s.fault ≡ None → Err e ≡ result_of t.fault
-    → ((more : List ℕ) → ¬ (◌≡◌ {A = Result (Unit {0}) ReadFault} (Err e) (Err Memory)) → lines_to_come t more ≡ lines_to_come s (piece ++ more)) → HoldsRefused (Some e) waiting
-holds-long waiting s t piece e none value lines n code same other =
+pub holds-long : (waiting : List Line) (s t : Split) (piece : List ℕ) (e : ReadFault) → s.fault ≡ None → Cuts s t piece (Some e) → HoldsRefused (Some e) waiting
+holds-long waiting s t piece e none cut n code same other =
     let is : e ≡ Input n code = same_Some e (Input n code) same in
-    let refused : t.fault ≡ Some e = some_of t.fault e value in
-    let known : lines_to_come t [] ≡ lines_to_come s (piece ++ []) = lines [] (λ memory. cc) in
     let fault : (lines_from s.number (line_pieces (s.rest ++ (piece ++ [])))).fault ≡ Some e =
-    rw (none, refused) at (sym (ap (λ (ls : Lines). ls.fault) known)) in
+    rw (none, cut.fault) at (sym (ap (λ (ls : Lines). ls.fault) (cut.lines []))) in
     absurd (other (cut-long s.number (line_pieces (s.rest ++ (piece ++ []))) n code (fault ∙ ap (λ f. Some f) is)))
 
 -- how a splitter goes on from one to another, that gave these lines
@@ -227,13 +226,12 @@ pub record CutsOn (s t : Split) (piece : List ℕ) (given : List Line) : Type 0 
   pub partial : IsPartial t.rest
 
 -- it goes on so where it refused nothing
-pub cuts-on : (s fed t : Split) (piece : List ℕ) (given : List Line) → given ≡ fed.waiting → t ≡ record fed { waiting = [] } → Ok tt ≡ result_of fed.fault → IsPartial fed.rest
-    → ((more : List ℕ) → ¬ (◌≡◌ {A = Result (Unit {0}) ReadFault} (Ok tt) (Err Memory)) → lines_to_come fed more ≡ lines_to_come s (piece ++ more)) → CutsOn s t piece given
-cuts-on s fed t piece given lines left value partial cuts = record {
-  cuts = λ more. sym (cuts more (λ e. cc)) ∙ rw (lines, left) refl;
-  unrefused = ap (λ (u : Split). u.fault) left ∙ none_of fed.fault value;
+cuts-on : (s fed t : Split) (piece : List ℕ) → Cuts s fed piece None → t ≡ record fed { waiting = [] } → CutsOn s t piece fed.waiting
+cuts-on s fed t piece cut left = record {
+  cuts = λ more. sym (cut.lines more) ∙ rw left refl;
+  unrefused = ap (λ (u : Split). u.fault) left ∙ cut.fault;
   taken = ap (λ (u : Split). u.waiting) left;
-  partial = subst IsPartial (sym (ap (λ (u : Split). u.rest) left)) partial;
+  partial = subst IsPartial (sym (ap (λ (u : Split). u.rest) left)) (cut.partial refl);
 }
 
 -- one more piece
@@ -272,14 +270,18 @@ read_on bytes piece old new given none front goes index waits held has =
       held = held;
     }
 
-pub piece_read : (bytes piece : List ℕ) (s fed t : Split) (old new : PartsSoFar) (before after : Option Indexed) (given lines : List Line) (fault : Option ReadFault) → given ≡ fed.waiting
-    → ((more : List ℕ) → IsFront fed.waiting (lines_to_come s (piece ++ more)).lines) → (fault ≡ None → CutsOn s t piece given) → after ≡ option_map (λ i. noted i lines) before → lines ≡ given
-    → AreAmong new.waiting (old.waiting ++ given) → HoldsRefused fault new.waiting → HasLines bytes (record { cut = s; parts = old; index = before; fault = None })
-    → HasLines (bytes ++ piece) (record { cut = t; parts = new; index = after; fault = fault })
-piece_read bytes piece s fed t old new before after given lines fault taken front goes index same waits held has =
-    read_on bytes piece (record { cut = s; parts = old; index = before; fault = None }) (record { cut = t; parts = new; index = after; fault = fault }) given refl
-    (λ more. subst (λ ls. IsFront ls (lines_to_come s (piece ++ more)).lines) (sym taken) (front more)) goes
-    (index ∙ ap (λ ls. option_map (λ i. noted i ls) before) same) waits held has
+-- the lines that a piece ends are noted, and those that wait are among them and those that waited
+pub piece_read : (bytes piece : List ℕ) (s fed t : Split) (old mid new : PartsSoFar) (before after : Option LineIndex) (refused fault : Option ReadFault) → Cuts s fed piece refused → Notes before after fed.waiting
+    → (fault ≡ None → (refused ≡ None) × (t ≡ record fed { waiting = [] })) → AreAmong mid.waiting old.waiting → AreAmong new.waiting (mid.waiting ++ fed.waiting) → HoldsRefused fault new.waiting
+    → HasLines bytes (reader_of s old before None) → HasLines (bytes ++ piece) (reader_of t new after fault)
+piece_read bytes piece s fed t old mid new before after refused fault cut notes goes waited waits held has =
+    read_on bytes piece (reader_of s old before None) (reader_of t new after fault) fed.waiting refl cut.front
+    (λ none. let on = goes none in cuts-on s fed t piece (subst (Cuts s fed piece) on.0 cut) on.1) notes.noted
+    (λ line is. elim (in-either mid.waiting fed.waiting line (waits line is)) [
+      | inl among ↦ in-front old.waiting fed.waiting line (waited line among)
+      | inr given ↦ in-after old.waiting fed.waiting line given
+    ])
+    held has
 
 -- the lines that wait are read
 pub waited : (bytes : List ℕ) (old new : InputSoFar) → old.fault ≡ None → new.cut ≡ old.cut → new.index ≡ old.index → AreAmong new.parts.waiting old.parts.waiting

@@ -51,8 +51,3 @@ last-lines s ls none last =
 pub last-read : (s : InputSoFar) (new : PartsSoFar) (ls : List Line) → s.fault ≡ None → lines_to_come s.cut [] ≡ record { lines = ls; fault = None }
     → ((more : List Line) → parts_to_come new more ≡ parts_to_come s.parts (ls ++ more)) → input_to_come s [] ≡ parts_to_come new []
 last-read s new ls none last read = last-lines s ls none last ∙ sym (read [])
-
--- one of them was refused
-pub last-refused : (s : InputSoFar) (ls : List Line) (fault : ReadFault) → s.fault ≡ None → lines_to_come s.cut [] ≡ record { lines = ls; fault = None }
-    → ((more : List Line) → parts_to_come s.parts (ls ++ more) ≡ Err fault) → input_to_come s [] ≡ Err fault
-last-refused s ls fault none last refused = last-lines s ls none last ∙ refused []

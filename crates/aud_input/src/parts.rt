@@ -7,13 +7,13 @@ ghost use Rattle.aud_input.specs.Input.{opens_object, is_certificate, parts_of};
 ghost use Rattle.aud_input.specs.Reader.{AreAmong, Holds, line_numbered, parts_to_come};
 
 use crate::input::{Input, Layout};
-use aud_reader::{BundleReader, LentLine, Line, Lines, ReadFault};
+use aud_reader::{BundleReader, LentLine, Line, Lines, ReadFault, Splitter};
 use std::alloc::{AllocError, Global};
 use std::hash::RandomState;
 use std::marker::Model;
 use std::thread::Threads;
 
-/// So many lines are enough for several threads.
+/// So many lines are enough to be read by several threads.
 const MAX_LINES: usize = 32_768;
 
 /// So many bytes are enough, however few the lines are.
@@ -55,11 +55,6 @@ fn is_certificate(layout: Layout, line: &LentLine<'_>) -> bool
         Layout::Bundle => false,
         Layout::BundleAndCertificates => opens_object(line.bytes),
     }
-}
-
-/// Whether lines that came with so many bytes of the input are enough for these threads to read them together.
-fn are_enough(threads: usize, lines: &Lines, size: usize) -> bool {
-    threads < 2 || MAX_LINES <= lines.len() || MAX_BYTES <= size
 }
 
 impl PartsReader {
@@ -135,7 +130,7 @@ impl PartsReader {
     }
 
     /// Keeps the next lines, which came with so many bytes of the input: together, where none can be a certificate.
-    fn keep_lines(&mut self, lines: &Lines, size: usize) -> Result<(), AllocError>
+    pub fn keep_lines(&mut self, lines: &Lines, size: usize) -> Result<(), AllocError>
         ensures going { self.new.taps ≡ self.old.taps }
         ensures parts { OnOk result ((more : List Line)
             → parts_to_come self.new more ≡ parts_to_come self.old (lines.now ++ more)) }
@@ -148,25 +143,19 @@ impl PartsReader {
         }
     }
 
-    /// Whether these lines, which came with so many bytes of the input, needn't be kept before they are read: they are
-    /// enough for the threads, no other line waits, and none can be a certificate.
-    fn reads_at_once(&self, threads: usize, lines: &Lines, size: usize) -> bool
+    /// Whether the next lines needn't be put after others to be read: no line waits, and none can be a certificate.
+    fn reads_at_once(&self) -> bool
         ensures bundle { result ≡ true → self.now.layout ≡ Bundle }
         ensures none { result ≡ true → self.now.waiting ≡ [] }
     {
         match self.layout {
-            Layout::Bundle => self.waiting.len() == 0 && are_enough(threads, lines, size),
+            Layout::Bundle => self.waiting.len() == 0,
             Layout::BundleAndCertificates => false,
         }
     }
 
-    /// Reads the next lines, up to the first that is refused. They are kept only where one is.
-    fn read_at_once<H: Threads + Sync>(
-        &mut self,
-        rt: &H,
-        threads: usize,
-        lines: &Lines,
-    ) -> Result<(), ReadFault>
+    /// Reads the next lines by one thread, up to the first that is refused. They are kept only where one is.
+    fn read_at_once<H: Threads + Sync>(&mut self, rt: &H, lines: &Lines) -> Result<(), ReadFault>
         requires going { self.old.taps.fault ≡ None }
         requires bundle { self.old.layout ≡ Bundle }
         requires none { self.old.waiting ≡ [] }
@@ -179,7 +168,7 @@ impl PartsReader {
             → AreAmong self.new.waiting (self.old.waiting ++ lines.now) }
         ensures held { IfErr result (λ e. e ≢ ReadFault.Memory → Holds e self.new.waiting) }
     {
-        match self.taps.lines(rt, threads, lines) {
+        match self.taps.lines(rt, 1, lines) {
             Ok(()) => Ok(()),
             Err(fault) => {
                 self.waiting.append(lines)?;
@@ -188,15 +177,8 @@ impl PartsReader {
         }
     }
 
-    /// Reads the next lines, up to the first that is refused, or keeps them until there are enough to be read. They
-    /// came with so many bytes of the input.
-    pub fn read_lines<H: Threads + Sync>(
-        &mut self,
-        rt: &H,
-        threads: usize,
-        lines: &Lines,
-        size: usize,
-    ) -> Result<(), ReadFault>
+    /// Reads the next lines by one thread, up to the first that is refused.
+    fn read_lines<H: Threads + Sync>(&mut self, rt: &H, lines: &Lines) -> Result<(), ReadFault>
         requires going { self.old.taps.fault ≡ None }
         ensures going { OnOk result (self.new.taps.fault ≡ None) }
         ensures parts { OnOk result ((more : List Line)
@@ -207,14 +189,70 @@ impl PartsReader {
             → AreAmong self.new.waiting (self.old.waiting ++ lines.now) }
         ensures held { IfErr result (λ e. e ≢ ReadFault.Memory → Holds e self.new.waiting) }
     {
-        if self.reads_at_once(threads, lines, size) {
-            return self.read_at_once(rt, threads, lines);
+        if self.reads_at_once() {
+            return self.read_at_once(rt, lines);
         }
-        self.keep_lines(lines, size)?;
-        if are_enough(threads, &self.waiting, self.bytes) {
-            return self.read_waiting(rt, threads);
+        self.keep_lines(lines, 0)?;
+        self.read_waiting(rt, 1)
+    }
+
+    /// Keeps the lines that a splitter hands out, which came with so many bytes of the input: as they stand, where no
+    /// other line waits and none can be a certificate.
+    fn keep_cut(&mut self, cut: &mut Splitter, size: usize) -> Result<(), AllocError>
+        ensures going { self.new.taps ≡ self.old.taps }
+        ensures cut { OnOk result (cut.new ≡ record cut.old { waiting = [] }) }
+        ensures number { cut.new.number ≡ cut.old.number }
+        ensures parts { OnOk result ((more : List Line) → parts_to_come self.new more
+            ≡ parts_to_come self.old (cut.old.waiting ++ more)) }
+        ensures waits { OnOk result (AreAmong self.new.waiting
+            (self.old.waiting ++ cut.old.waiting)) }
+    {
+        if self.reads_at_once() {
+            self.bytes = size;
+            cut.take_into(&mut self.waiting);
+            return Ok(());
         }
+        self.keep_lines(cut.waiting(), size)?;
+        cut.clear();
         Ok(())
+    }
+
+    /// Takes the lines that a splitter hands out, which came with so many bytes of the input. One thread reads them, up
+    /// to the first that is refused; for several they wait.
+    pub fn take_lines<H: Threads + Sync>(
+        &mut self,
+        rt: &H,
+        threads: usize,
+        cut: &mut Splitter,
+        size: usize,
+    ) -> Result<(), ReadFault>
+        requires going { self.old.taps.fault ≡ None }
+        ensures going { OnOk result (self.new.taps.fault ≡ None) }
+        ensures cut { OnOk result (cut.new ≡ record cut.old { waiting = [] }) }
+        ensures number { cut.new.number ≡ cut.old.number }
+        ensures parts { OnOk result ((more : List Line) → parts_to_come self.new more
+            ≡ parts_to_come self.old (cut.old.waiting ++ more)) }
+        ensures refused { IfErr result (λ e. e ≢ ReadFault.Memory → (more : List Line)
+            → parts_to_come self.old (cut.old.waiting ++ more) ≡ Err e) }
+        ensures waits { result ≢ Err ReadFault.Memory
+            → AreAmong self.new.waiting (self.old.waiting ++ cut.old.waiting) }
+        ensures held { IfErr result (λ e. e ≢ ReadFault.Memory → Holds e self.new.waiting) }
+    {
+        if 1 < threads {
+            return Ok(self.keep_cut(cut, size)?);
+        }
+        match self.read_lines(rt, cut.waiting()) {
+            Ok(()) => {
+                cut.clear();
+                Ok(())
+            }
+            Err(fault) => Err(fault),
+        }
+    }
+
+    /// Whether the lines that wait are enough for several threads to read them.
+    pub fn has_enough(&self) -> bool {
+        MAX_LINES <= self.waiting.len() || MAX_BYTES <= self.bytes
     }
 
     /// The line of this number, copied, where it waits to be read.

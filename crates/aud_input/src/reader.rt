@@ -4,7 +4,8 @@ ghost use Rattle.aud_tap.specs.Names.{AreNamedOnce};
 ghost use Rattle.aud_reader.specs.Lines.{lines_to_come, result_of};
 ghost use Rattle.aud_input.specs.Files.{header_told, line_told};
 ghost use Rattle.aud_input.specs.Input.{input_of};
-ghost use Rattle.aud_input.specs.Private.Going.{AreGoing, fault_of, reader_of};
+ghost use Rattle.std.specs.Thread.{IsSync};
+ghost use Rattle.aud_input.specs.Private.Going.{AreGoing, Cuts, Notes, ReadsWaiting, fault_of, reader_of};
 ghost use Rattle.aud_input.specs.Private.Kept.{KeepsPlaces, so_far};
 ghost use Rattle.aud_input.specs.Reader.{AreAmong, HasLines, Holds, input_over, input_to_come, line_numbered, parts_to_come};
 ghost use Rattle.aud_input.specs.TapLines.{lines_noted, noted, taps_noted};
@@ -19,11 +20,10 @@ use aud_tap::Bytes;
 use std::alloc::{AllocError, Global};
 use std::hash::RandomState;
 use std::marker::Model;
-use std::thread::Threads;
+use std::thread::{Threads, join_mut};
 
 /// Reads an input that comes in pieces: for one thread the lines that a piece ends; for several the lines of the bundle
-/// wait until there are 32,768 of them, or 4 MiB, and are read together. A piece that brings as many, while no other
-/// line waits, is read at once.
+/// wait until there are 32,768 of them, or 4 MiB, and are read together, while one more thread cuts the next piece.
 ///
 /// It keeps the line that has begun, the lines that wait, the certificates, and what the records of the other lines
 /// tell. After a refusal, also when out of memory, it gives that refusal from then on, and looks at no more bytes.
@@ -61,34 +61,62 @@ fn note_lines(index: &mut Option<LineIndex>, lines: &Lines) -> Result<(), AllocE
     }
 }
 
-/// Notes the next lines, which came with so many bytes of the input, and reads them, now or later.
-fn read_cut<H: Threads + Sync>(
-    rt: &H,
-    threads: usize,
-    parts: &mut PartsReader,
+/// Cuts the next piece into lines, and notes those that are whole. Gives the refusal of the one that is too long.
+fn cut_piece(
+    splitter: &mut Splitter,
     index: &mut Option<LineIndex>,
-    lines: &Lines,
-    size: usize,
-) -> Result<(), ReadFault>
-    requires going { parts.old.taps.fault ≡ None }
+    piece: &[u8],
+) -> Result<Option<ReadFault>, AllocError>
+    requires number { splitter.old.number + length piece.now < 2 ^ 64 }
     requires keeps { IfSome index.old KeepsPlaces }
-    ensures going { OnOk result (parts.new.taps.fault ≡ None) }
-    ensures keeps { OnOk result (IfSome index.new KeepsPlaces) }
-    ensures noted { result ≢ Err ReadFault.Memory → option_map so_far index.new
-        ≡ option_map (λ s. noted s lines.now) (option_map so_far index.old) }
-    ensures parts { OnOk result ((more : List Line)
-        → parts_to_come parts.new more ≡ parts_to_come parts.old (lines.now ++ more)) }
-    ensures refused { IfErr result (λ e. e ≢ ReadFault.Memory → (more : List Line)
-        → parts_to_come parts.old (lines.now ++ more) ≡ Err e) }
-    ensures waits { result ≢ Err ReadFault.Memory
-        → AreAmong parts.new.waiting (parts.old.waiting ++ lines.now) }
-    ensures held { IfErr result (λ e. e ≢ ReadFault.Memory → Holds e parts.new.waiting) }
+    ensures cut { IfOk result (Cuts splitter.old splitter.new piece.now) }
+    ensures noted { OnOk result (Notes index.old index.new splitter.new.waiting) }
+    ensures number { splitter.new.number ≤ splitter.old.number + length piece.now }
 {
-    note_lines(index, lines)?;
-    parts.read_lines(rt, threads, lines, size)
+    let cut = splitter.feed(piece);
+    note_lines(index, splitter.waiting())?;
+    match cut {
+        Ok(()) => Ok(None),
+        Err(ReadFault::Memory) => Err(AllocError),
+        Err(refused) => Ok(Some(refused)),
+    }
 }
 
-/// Cuts the next piece into lines, notes those that are whole, and reads them, now or later.
+/// Cuts the next piece into lines and notes those that are whole, while the lines that wait are read, if they are enough
+/// for so many threads. Gives the refusal of the line that is too long, and what comes of the lines that waited.
+fn cut_and_read<H: Threads + Sync>(
+    rt: &H,
+    threads: usize,
+    splitter: &mut Splitter,
+    parts: &mut PartsReader,
+    index: &mut Option<LineIndex>,
+    piece: &[u8],
+) -> (Result<Option<ReadFault>, AllocError>, Result<(), ReadFault>)
+    requires number { splitter.old.number + length piece.now < 2 ^ 64 }
+    requires going { parts.old.taps.fault ≡ None }
+    requires keeps { IfSome index.old KeepsPlaces }
+    ensures cut { IfOk result.0 (Cuts splitter.old splitter.new piece.now) }
+    ensures noted { OnOk result.0 (Notes index.old index.new splitter.new.waiting) }
+    ensures number { splitter.new.number ≤ splitter.old.number + length piece.now }
+    ensures read { ReadsWaiting parts.old parts.new result.1 }
+{
+    if threads < 2 || !parts.has_enough() {
+        return (cut_piece(splitter, index, piece), Ok(()));
+    }
+    let mut cutting = || -> Result<Option<ReadFault>, AllocError>
+        requires { (splitter.now.number + length piece.now < 2 ^ 64) × IfSome index.now KeepsPlaces }
+        ensures { IfOk result (Cuts splitter.entry.now splitter.exit.now piece.entry.now)
+            × OnOk result (Notes index.entry.now index.exit.now splitter.exit.now.waiting)
+            × (splitter.exit.now.number ≤ splitter.entry.now.number + length piece.entry.now) }
+    { cut_piece(splitter, index, piece) };
+    let mut reading = || -> Result<(), ReadFault>
+        requires { IsSync H.row × (parts.now.taps.fault ≡ None) }
+        ensures { ReadsWaiting parts.entry.now parts.exit.now result }
+    { parts.read_waiting(rt, threads) };
+    join_mut(rt, &mut cutting, &mut reading)
+}
+
+/// Cuts the next piece into lines, notes those that are whole, and reads them, now or once there are enough.
 fn read_piece<H: Threads + Sync>(
     rt: &H,
     threads: usize,
@@ -113,15 +141,21 @@ fn read_piece<H: Threads + Sync>(
         → input_over parts.old (lines_to_come splitter.old (piece.now ++ more)) ≡ Err e) }
     ensures number { splitter.new.number ≤ splitter.old.number + length piece.now }
 {
-    let cut = splitter.feed(piece);
-    match read_cut(rt, threads, parts, index, splitter.waiting(), piece.len()) {
-        Ok(()) => splitter.clear(),
+    let (cut, read) = cut_and_read(rt, threads, splitter, parts, index, piece);
+    let too_long = cut?;
+    // A line that waited stands before those of the piece.
+    match read {
+        Ok(()) => {}
         Err(fault) => return Err(fault),
     }
-    match cut {
-        Ok(()) => Ok(()),
+    match parts.take_lines(rt, threads, splitter, piece.len()) {
+        Ok(()) => {}
+        Err(fault) => return Err(fault),
+    }
+    match too_long {
+        None => Ok(()),
         // A line that waits stands before the one that is too long, and may be refused too.
-        Err(fault) => match parts.read_waiting(rt, threads) {
+        Some(fault) => match parts.read_waiting(rt, threads) {
             Ok(()) => Err(fault),
             Err(earlier) => Err(earlier),
         },
@@ -181,8 +215,8 @@ impl InputReader {
 
     /// Reads the next piece of the input, which is borrowed for the call alone.
     ///
-    /// The first refused line is refused once it was read, at most `threads` threads sharing the work, or once its
-    /// bytes are too many. The numbers of lines are below 2 to the 64th.
+    /// The first refused line is refused once it was read, at most `threads` threads sharing the work beside the one that
+    /// cuts this piece, or once its bytes are too many. The numbers of lines are below 2 to the 64th.
     pub fn feed<H: Threads + Sync>(
         &mut self,
         rt: &H,
@@ -232,7 +266,8 @@ impl InputReader {
             return Err(fault);
         }
         let lines = this.splitter.finish()?;
-        read_cut(rt, threads, &mut this.parts, &mut this.index, &lines, 0)?;
+        note_lines(&mut this.index, &lines)?;
+        this.parts.keep_lines(&lines, 0)?;
         this.parts.finish(rt, threads)
     }
 

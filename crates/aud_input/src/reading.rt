@@ -127,7 +127,8 @@ fn read_file<H: Threads + Sync, R: Read>(
 /// The taps and the certificates of the input, or its first refused line.
 ///
 /// Lines are read by at most `threads` threads, this one among them; for more than one they wait until there are
-/// enough, as [`InputReader`] says. Each line is dropped once it was read, but for the certificates. The input is read
+/// enough, and one thread more cuts what comes next, as [`InputReader`] says. Each line is dropped once it was read, but
+/// for the certificates. The input is read
 /// to its end where a line of it is refused too, so that a read that fails is told first, however many bytes the reader
 /// gives a call. A read that fails is not tried again, of whatever kind its error is.
 pub fn read_input<H: Threads + Sync, R: Read>(

@@ -81,6 +81,16 @@ impl Splitter {
         mem::replace(&mut self.waiting, empty)
     }
 
+    /// Hands out the whole lines that stand and weren't handed out yet, in the place of the lines that are given, whose
+    /// room is kept for the next ones; after a refusal too.
+    pub fn take_into(&mut self, lines: &mut Lines)
+        ensures lines { lines.new ≡ self.old.waiting }
+        ensures left { self.new ≡ record self.old { waiting = [] } }
+    {
+        lines.clear();
+        mem::swap(&mut self.waiting, lines);
+    }
+
     /// The whole lines that stand and weren't handed out yet, borrowed; after a refusal too.
     pub fn waiting(&self) -> &Lines
         ensures { result.now ≡ self.now.waiting }

@@ -44,6 +44,14 @@ fn lines_end_at_newlines(rt: HostRuntime) -> Result<(), Fail> {
         let lines = lines_of_bytes(rt.alloc(), input.as_bytes())?;
         assert!(rt; are(&lines, wanted)?, "{input:?}");
     }
+    // the lines that were handed out before are let go
+    let mut splitter = Splitter::new(rt.alloc());
+    let mut lines = Lines::new(rt.alloc());
+    splitter.feed(b"a\nbc\nd")?;
+    splitter.take_into(&mut lines);
+    assert!(rt; are(&lines, &["a", "bc"])?);
+    splitter.take_into(&mut lines);
+    assert!(rt; are(&lines, &[])?);
     assert!(rt; next_line(b"a\r\nb\n") == Some((b"a\r".as_slice(), b"b\n".as_slice())));
     assert!(rt; next_line(b"ab").is_none());
     Ok(())
