@@ -25,7 +25,8 @@ for sioaudit-join. It ends with SIGINT or SIGTERM.
   --version              print the version
   -h, --help             print this
 
-Status: 0 ended by a signal, with its journal whole; 1 the journal could not be written; 2 wrong arguments.
+Status: 0 ended by a signal, with its journal whole; 1 the journal could not be written; 2 wrong arguments, or it can't listen
+there: no journal was made.
 `;
 
 const OPTIONS = {

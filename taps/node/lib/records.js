@@ -132,7 +132,7 @@ function checked(of, version, record) {
   const made = { k };
   for (const name of Object.keys(fields)) {
     const value = record[name];
-    if (fields[name].optional && (value === undefined || value.length === 0)) continue;
+    if (fields[name].optional && (value === undefined || value?.length === 0)) continue;
     fields[name](name, value);
     made[name] = value;
   }

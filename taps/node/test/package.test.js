@@ -69,3 +69,29 @@ test("what npm packs", { skip: noNpm }, () => {
   const there = execFileSync("find", ["lib", "bin", "-type", "f"], { cwd: HERE, encoding: "utf8" }).trim().split("\n");
   assert.deepEqual(packed, ["PROXY.md", "README.md", "package.json", ...there].sort());
 });
+
+const PAGES = ["README.md", "../../docs/TAPPING.md"];
+
+test("what the pages say installs the package with all that it needs", { skip: noNpm }, (t) => {
+  const dir = directory(t);
+  const from = path.join(dir, "taps/node");
+  fs.cpSync(HERE, from, { recursive: true, filter: (it) => !/\/(?:test|node_modules)$/.test(it) });
+  // stand-ins, so that no registry is asked
+  const needed = Object.keys(about.dependencies);
+  for (const name of needed) {
+    fs.mkdirSync(path.join(dir, name));
+    fs.writeFileSync(path.join(dir, name, "package.json"), JSON.stringify({ name, version: "1.0.0" }));
+  }
+  const dependencies = Object.fromEntries(needed.map((name) => [name, `file:${path.join(dir, name)}`]));
+  fs.writeFileSync(path.join(from, "package.json"), JSON.stringify({ ...about, dependencies }));
+  const env = { ...process.env, npm_config_cache: path.join(dir, "cache"), npm_config_offline: "true", npm_config_audit: "false", npm_config_fund: "false" };
+  for (const page of PAGES) {
+    const [command] = /^npm install .*$/m.exec(fs.readFileSync(path.join(HERE, page), "utf8"));
+    const [, ...words] = command.replace("/path/to/sioaudit/taps/node", from).split(" ");
+    const app = fs.mkdtempSync(path.join(dir, "app-"));
+    const { status, stderr } = spawnSync("npm", words, { cwd: app, env, encoding: "utf8" });
+    assert.equal(status, 0, stderr);
+    const { resolve } = module.constructor.createRequire(path.join(app, "node_modules/sioaudit-taps/package.json"));
+    for (const name of needed) assert.ok(resolve(`${name}/package.json`).startsWith(app), `${page}: ${name}`);
+  }
+});

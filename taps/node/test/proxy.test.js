@@ -673,6 +673,7 @@ test("the proxy's words", async (t) => {
   const there = path.join(directory(t), "there");
   fs.writeFileSync(there, "");
   const journal = path.join(directory(t), "journal");
+  const { server } = await serve(t, { request: (req, res) => res.end() });
   for (const [words, why] of [
     [["http://x"], /--journal FILE is missing/],
     [["--journal", journal], /no NODE/],
@@ -681,6 +682,7 @@ test("the proxy's words", async (t) => {
     [["--journal", journal, "--inject", "drop:7", "http://x"], /probability/],
     [["--journal", journal, "--max-body", "0", "http://x"], /--max-body/],
     [["--journal", journal, "--wrong", "http://x"], /--wrong/],
+    [["--journal", journal, "--listen", `127.0.0.1:${server.address().port}`, "http://127.0.0.1:1"], /EADDRINUSE/],
   ]) {
     const [status, text] = await run(...words);
     assert.equal(status, 2);

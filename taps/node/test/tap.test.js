@@ -83,6 +83,7 @@ test("refuses what the auditor would, and ends", () => {
     ["node", "Limit", { k: "back", pid: "p", turn: 65536 }],
     ["stream", "Limit", { k: "ev", off: "1", nsp: "/", text: "2", rooms: new Array(257).fill("r") }],
     ["stream", "Field", { k: "ev", off: "1", nsp: "/", text: "2", rooms: "r" }],
+    ["stream", "Field", { k: "ev", off: "1", nsp: "/", text: "2", rooms: null }],
     ["stream", "Limit", { k: "ev", off: "1", nsp: "/", text: "2", bin: new Array(65).fill("") }],
     ["stream", "Field", { k: "ev", off: "1", nsp: "/", text: "2", bin: ["AB=="] }],
     ["stream", "Field", { k: "ev", off: "1", nsp: "/", text: "2", bin: ["AAB="] }],

@@ -160,7 +160,7 @@ class Collect(unittest.TestCase):
         asyncio.run(run())
         for name, (_, code, line) in bad.items():
             self.assertTrue(any(f"{name}.tap: line {line} is refused: {code}: " in it for it in told), (name, told))
-        self.assertTrue(any("NameTaken" in it for it in told))
+        self.assertTrue(any("c1.tap: the tap is refused: NameTaken: " in it for it in told), told)
         kept = self.collected()
         for name, text in self.each().items():
             if name not in bad:

@@ -1,5 +1,6 @@
 "use strict";
 
+const fs = require("node:fs");
 const http = require("node:http");
 const https = require("node:https");
 const { request } = require("./http");
@@ -174,6 +175,7 @@ async function startProxy(options) {
     proxy.url = `http://${address.family === "IPv6" ? `[${address.address}]` : address.address}:${address.port}`;
   } catch (error) {
     proxy.journal.end();
+    fs.rmSync(proxy.journal.file, { force: true }); // nothing was passed on: the next try may have this name
     throw error;
   }
   return proxy;

@@ -134,7 +134,8 @@ class Sender:
             raise ProtocolError("the collector answers something else")
         tap.at = at
         if "refused" in answer:
-            return self._give_up(tap, f"line {answer.get('line')} is refused: {answer['refused']}: {answer.get('why')}")
+            which = f"line {answer['line']}" if answer.get("line") else "the tap"
+            return self._give_up(tap, f"{which} is refused: {answer['refused']}: {answer.get('why')}")
         return True
 
     async def _ask(self, reader: asyncio.StreamReader, writer: asyncio.StreamWriter, asked: bytes) -> dict[str, Any]:
