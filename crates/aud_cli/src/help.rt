@@ -43,12 +43,13 @@ The classes of faults:
   recording  NOLOG, CHAIN, ORDER, CLIENT, NAMES: the taps contradict each other, or lack something
 
 Exit status:
-  0  nothing of what --fail-on lists was found; with nothing it is one that no session, or no entry
-     that is sent again after a recovery, was recorded
-  1  some of it was
+  0  nothing of what --fail-on lists was found
+  1  some of it was; `nothing` is found where no session, or no entry that is sent again after a
+     recovery, was recorded
   2  a line of the bundle is refused; the output names it
   3  a read or a write failed, a thread could not be started, or there was no memory
-  4  these words are not understood";
+  4  these words are not understood, the bundle has no such session or record, or the file of --lines
+     is not of this part";
 
 pub(crate) const PROVE_ABOUT: &str =
     "Reads a bundle and writes the certificate of each session that received what was due to it";

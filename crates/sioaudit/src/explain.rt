@@ -9,7 +9,7 @@ use crate::status_code;
 use aud_app::{RunFault, Watched};
 use aud_cli::{ExplainOptions, explain_asked};
 use aud_explain_app::{Ending, ExplainFault, Unexplained, explain};
-use aud_explanation::printed;
+use aud_explanation::{named, printed};
 use aud_input::PartLines;
 use aud_parts::{LinesFault, read_lines};
 use std::alloc::{AllocError, Global};
@@ -138,7 +138,7 @@ fn no_session(
     number: usize,
 ) -> Result<Failure, AllocError> {
     let pid = match options.pids.as_slice().get(number) {
-        Some(pid) => printed(alloc, pid.as_str())?,
+        Some(pid) => named(alloc, pid.as_str())?,
         None => String::new(alloc),
     };
     let pid = pid.as_str();
@@ -152,11 +152,11 @@ fn no_record(
     options: &ExplainOptions,
     number: usize,
 ) -> Result<Failure, AllocError> {
-    let Some(named) = options.records.as_slice().get(number) else {
+    let Some(record) = options.records.as_slice().get(number) else {
         return Ok(Failure::from(RunFault::Memory));
     };
-    let tap = printed(alloc, named.tap.as_str())?;
-    let (number, tap) = (named.number, tap.as_str());
+    let tap = named(alloc, record.tap.as_str())?;
+    let (number, tap) = (record.number, tap.as_str());
     let line = format!(in alloc; "error: the bundle has no record {number} of a tap {tap}")?;
     Ok(Failure::Line(line, 4))
 }
@@ -164,7 +164,7 @@ fn no_record(
 /// Says which sessions of the arguments `--only` leaves out.
 fn ended(rt: &impl Eprint, alloc: Global, ending: &Ending<'_>) -> Result<ExitCode, Failure> {
     for pid in &ending.left_out {
-        let pid = printed(alloc, pid)?;
+        let pid = named(alloc, pid)?;
         let pid = pid.as_str();
         let _ = eprintln!(rt; "sioaudit: --only leaves out the session {pid}");
     }
