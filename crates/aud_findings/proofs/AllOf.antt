@@ -15,7 +15,7 @@ use Rattle.aud_check.specs.Difference.{has_position}
 use Rattle.aud_findings.specs.Also.{AreAllOf, is_also}
 
 -- of those of a list that pass a test each stands in the list and passes
-pub has_filter : (test : ℕ → Bool) (xs : List ℕ) (p : ℕ) → has_position (filter test xs) p ≡ (has_position xs p && test p)
+has_filter : (test : ℕ → Bool) (xs : List ℕ) (p : ℕ) → has_position (filter test xs) p ≡ (has_position xs p && test p)
 has_filter test xs p = any-filter_same (λ q. nat_eq q p) test (test p) (λ k e. ap test (eqb-true k p e)) xs ∙ and_comm (test p) (has_position xs p)
 
 -- those of another difference than that of an entry that was not due
@@ -51,13 +51,18 @@ has_dedup xs p =
     (λ h. has_from xs p (Contains-from_dedup nat_eq xs p (contains_from (dedup nat_eq xs) p h)))
     (λ h. has_from (dedup nat_eq xs) p (Contains-dedup_nat xs p (contains_from xs p h)))
 
--- those that pass a test, sorted, each once
-pub all_once : (test : ℕ → Bool) (xs sorted once : List ℕ) → IsPermutation (filter test xs) sorted → once ≡ dedup nat_eq sorted → IsStrictlyIncreasing once
-    → AreAllOf (λ p. has_position xs p && test p) once
-all_once test xs sorted once moved once_is up =
+-- they are those of the list
+pub all_once : (xs sorted once : List ℕ) → IsPermutation xs sorted → once ≡ dedup nat_eq sorted → IsStrictlyIncreasing once → AreAllOf (has_position xs) once
+all_once xs sorted once moved once_is up =
     record {
       ascending = AllPairs-from_increasing once up;
-      all = λ p.
-          ap (λ ps. has_position ps p) once_is ∙ has_dedup sorted p
-          ∙ sym (list_any-IsPermutation (λ q. nat_eq q p) (filter test xs) sorted moved) ∙ has_filter test xs p;
+      all = λ p. ap (λ ps. has_position ps p) once_is ∙ has_dedup sorted p ∙ sym (list_any-IsPermutation (λ q. nat_eq q p) xs sorted moved);
+    }
+
+-- those that pass a test, where these are found so
+pub all_passing : (test : ℕ → Bool) (xs found once : List ℕ) → found ≡ filter test xs → AreAllOf (has_position found) once → AreAllOf (λ p. has_position xs p && test p) once
+all_passing test xs found once is all =
+    record {
+      ascending = all.ascending;
+      all = λ p. all.all p ∙ ap (λ ps. has_position ps p) is ∙ has_filter test xs p;
     }

@@ -1,10 +1,12 @@
--- Ranges of positions.
-use Rattle.std.proofs.Common.{◌≡◌, ◌+◌, ◌∙◌, ◌++◌, ℕ, zero, suc, List, [], ◌∷◌, length, map, drop, refl, sym, ap, arith}
-use Rattle.std.proofs.lemmas.List.{append_assoc, map-append}
-use Rattle.std.proofs.lemmas.Simd.{map-map}
+-- Ranges of positions, and the lines that show their ends.
+use Rattle.std.proofs.Common.{◌≡◌, ◌+◌, ◌∙◌, ◌++◌, ℕ, zero, suc, List, [], ◌∷◌, length, map, drop, refl, sym, ap, subst, arith, append-nil}
+use Rattle.aud_node.specs.Cluster.{Cluster}
+use Rattle.aud_client.specs.StaySeen.{FrameSeen}
+use Rattle.aud_input.specs.TapLines.{TapLines}
 use Rattle.aud_findings.specs.declared.ranges.Range.{Range}
-use Rattle.aud_findings.specs.Private.InRanges.{range_seen}
-use Rattle.aud_findings.specs.Also.{AlsoSeen, RangeSeen, following, past_ranges, range_also, ranges, told_of}
+use Rattle.aud_findings.specs.declared.also.LinesOf.{LinesOf}
+use Rattle.aud_findings.specs.declared.also.LinesOf.TheVariants.{Entry}
+use Rattle.aud_findings.specs.Also.{AlsoSeen, entry_lines, following, frame_lines, lines_of, past_ranges, range_also, ranges, told_of}
 
 -- there are no more of them
 pub no_ranges : (positions : List ℕ) → ranges zero positions ≡ []
@@ -52,18 +54,23 @@ module _ (more p last count : ℕ) (positions others after : List ℕ) (parts : 
   pub past_taken : past_ranges more after ≡ past_ranges (suc more) positions
   past_taken = sym (ap (past_ranges (suc more)) parts ∙ past_one more p others ∙ sym (ap (past_ranges more) there))
 
--- and was put at the end of these
-pub put_on : (found : List Range) (range : Range) (now : List Range) (rest all : List RangeSeen) → now ≡ found ++ range ∷ [] → all ≡ range_seen range ∷ rest
-    → map range_seen now ++ rest ≡ map range_seen found ++ all
-put_on found range now rest all now_is all_is =
-    ap (λ rs. map range_seen rs ++ rest) now_is ∙ ap (λ rs. rs ++ rest) (map-append range_seen found (range ∷ []))
-    ∙ append_assoc (map range_seen found) (range_seen range ∷ []) rest
-    ∙ ap (λ rs. map range_seen found ++ rs) (sym all_is)
-
 -- what is told of the positions, by their ranges as they are found
 pub told_all : (lines_at : ℕ → List ℕ) (positions : List ℕ) (told : List AlsoSeen) (found : List Range) (left : ℕ)
-    → told ≡ map (λ r. range_also lines_at (range_seen r)) found → map range_seen found ≡ ranges 100 positions → left ≡ length (past_ranges 100 positions)
+    → told ≡ map (range_also lines_at) found → found ≡ ranges 100 positions → left ≡ length (past_ranges 100 positions)
     → record { ranges = told; left = left } ≡ told_of lines_at positions
 told_all lines_at positions told found left told_is found_is left_is =
-    let all : told ≡ map (range_also lines_at) (ranges 100 positions) = told_is ∙ sym (map-map (range_also lines_at) range_seen found) ∙ ap (map (range_also lines_at)) found_is in
-    λ i. record { ranges = all i; left = left_is i }
+    λ i. record { ranges = (told_is ∙ ap (map (range_also lines_at)) found_is) i; left = left_is i }
+
+-- ---- an entry that never came
+
+none_shown : (c : Cluster) (lines : List TapLines) (place : ℕ) (numbers : List ℕ) (p number : ℕ) (frames : List FrameSeen)
+    → frame_lines Entry c lines place numbers p number frames ≡ []
+none_shown c lines place numbers p number [] = refl
+none_shown c lines place numbers p number (frame ∷ frames) = none_shown c lines place numbers p (suc number) frames
+
+-- its line alone shows it
+pub entry_alone : (by : LinesOf) → by ≡ Entry → (c : Cluster) (lines : List TapLines) (place : ℕ) (numbers : List ℕ) (frames : List FrameSeen) (p : ℕ)
+    → entry_lines by c lines p ≡ lines_of by c lines place numbers frames p
+entry_alone by is c lines place numbers frames p =
+    subst (λ b. entry_lines b c lines p ≡ lines_of b c lines place numbers frames p) (sym is)
+    (sym (ap (λ later. entry_lines Entry c lines p ++ later) (none_shown c lines place numbers p 0 frames) ∙ append-nil (entry_lines Entry c lines p)))

@@ -1,11 +1,12 @@
 -- Events that are joined, and that they tell of the same entries.
-use Rattle.std.proofs.Common.{◌≡◌, ◌≤◌, ◌-◌, ◌+◌, ℕ, suc, Bool, true, false, nat_eq, List, [], ◌∷◌, ◌++◌, flat_map, Option, Some, None, refl, sym, ap, ◌∙◌, arith, append-nil, append_assoc}
+use Rattle.std.proofs.Common.{◌≡◌, ◌≤◌, ◌-◌, ◌+◌, ℕ, suc, Bool, true, false, nat_eq, List, [], ◌∷◌, ◌++◌, flat_map, length, Option, Some, None, refl, sym, ap, ◌∙◌, arith, append-nil, append_assoc}
 use Rattle.std.specs.Prelude.{if◌then◌else◌, nat_le, option_to_list, slice_get}
 use Rattle.std.specs.Option.{option_map, option_and_then}
 use Rattle.aud_tap.specs.declared.records.StreamRec.{StreamRec}
 use Rattle.aud_node.specs.Cluster.{Cluster}
 use Rattle.aud_node.specs.Stream.{Text, position}
 use Rattle.aud_client.specs.Replies.{is_this}
+use Rattle.aud_client.specs.StaySeen.{StaySeen}
 use Rattle.aud_input.specs.TapLines.{TapLines}
 use Rattle.aud_input.proofs.LineRunsLemmas.{numbers_from-append}
 use Rattle.aud_rows.specs.declared.row.Role.TheVariants as role
@@ -18,7 +19,7 @@ use Rattle.aud_explanation.specs.declared.event.ClientEvent.{ClientEvent}
 use Rattle.aud_explanation.specs.declared.event.Happens.{Happens}
 use Rattle.aud_explanation.specs.declared.event.Happens.TheVariants.{Asks, Got, Lost}
 use Rattle.aud_findings.specs.InOrder.{put_in, in_order}
-use Rattle.aud_findings.specs.ClientEvents.{answered, client_events, events_of_stays, first_line, frame_count, happens_of, may_be_of, received_events, row_events, stay_asks, stay_events, stay_row_events}
+use Rattle.aud_findings.specs.ClientEvents.{answered, client_events, events_in, events_of_stays, first_line, happens_of, is_asked, may_be_of, row_events, stay_row_events}
 use Rattle.aud_findings.specs.Runs.{extended, extended_by, joined, joined_as, joined_happens, one_or_two, positions_in, positions_told, run_on}
 
 -- one event more, after a last one
@@ -150,31 +151,25 @@ row-up : (stream : List StreamRec) (pid : Text) (asked : Bool) (row : Option Row
 row-up stream pid asked None = tt
 row-up stream pid asked (Some row) = told-up row.line (happens_of stream pid asked row.says) (happens-up stream pid asked row.says)
 
-received-up : (c : Cluster) (lines : List TapLines) (place : ℕ) (pid : Text) (number : ℕ) → AllUp (received_events c lines place pid number)
-received-up c lines place pid number =
-    append-up _ _ (flat-up (λ frame. stay_row_events c place pid number (frame_row c lines place number frame role.Later))
-    (λ frame. row-up c.stream pid asked (frame_row c lines place number frame role.Later))
-    (numbers_from 0 (frame_count (slice_get (stays_at c place) number))))
-    (row-up c.stream pid asked (lost_row c lines place number role.Later))
-  where
-    asked : Bool
-    asked = stay_asks c place pid number
-
 if-up : (b : Bool) (events : List ClientEvent) → AllUp events → AllUp (if b then events else [])
 if-up true events up = up
 if-up false events up = tt
 
-stay-up : (c : Cluster) (lines : List TapLines) (place : ℕ) (pid : Text) (number : ℕ) → AllUp (stay_events c lines place pid number)
-stay-up c lines place pid number =
-    append-up _ _ (row-up c.stream pid asked (ask_row c lines place number role.Ask))
-    (append-up _ _ (row-up c.stream pid asked (reply_row c lines place number role.Reply))
-    (if-up (may_be_of pid (slice_get (stays_at c place) number)) (received_events c lines place pid number) (received-up c lines place pid number)))
+stay-up : (c : Cluster) (lines : List TapLines) (place : ℕ) (pid : Text) (number : ℕ) (stay : Option StaySeen) → AllUp (events_in c lines place pid number stay)
+stay-up c lines place pid number None = tt
+stay-up c lines place pid number (Some stay) =
+    append-up _ _ (up (ask_row c lines place number role.Ask))
+    (append-up _ _ (up (reply_row c lines place number role.Reply))
+    (if-up (may_be_of pid stay) _
+    (append-up _ _ (flat-up (λ frame. stay_row_events c.stream pid stay (frame_row c lines place number frame role.Later))
+    (λ frame. up (frame_row c lines place number frame role.Later)) (numbers_from 0 (length stay.frames)))
+    (up (lost_row c lines place number role.Later)))))
   where
-    asked : Bool
-    asked = stay_asks c place pid number
+    up : (row : Option RowSeen) → AllUp (stay_row_events c.stream pid stay row)
+    up row = row-up c.stream pid (is_asked pid stay.asked) row
 
 pub events-keep : (c : Cluster) (lines : List TapLines) (place : ℕ) (pid : Text) (numbers : List ℕ)
     → flat_map positions_told (client_events c lines place pid numbers) ≡ flat_map positions_told (in_order first_line (events_of_stays c lines place pid numbers))
 events-keep c lines place pid numbers =
     all-keep [] (in_order first_line (events_of_stays c lines place pid numbers)) tt
-    (in_order-up (events_of_stays c lines place pid numbers) (flat-up (stay_events c lines place pid) (stay-up c lines place pid) numbers))
+    (in_order-up (events_of_stays c lines place pid numbers) (flat-up _ (λ number. stay-up c lines place pid number (slice_get (stays_at c place) number)) numbers))

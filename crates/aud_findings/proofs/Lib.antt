@@ -9,7 +9,6 @@ pub mod Read
 pub mod Naming
 pub mod ChainRows
 pub mod Nodes
-pub mod Firsts
 pub mod OrderLemmas
 pub mod ChainLemmas
 pub mod KeptLemmas

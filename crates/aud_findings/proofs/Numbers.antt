@@ -1,7 +1,12 @@
--- The first of numbers that passes, and what a loop over numbers has added.
-use Rattle.std.proofs.Common.{◌≡◌, ◌<◌, ◌≤◌, ◌+◌, ◌-◌, ◌++◌, ℕ, suc, Bool, true, false, cond, List, Some, None, find, flat_map, sym, ap, ◌∙◌, arith, add-one, append_assoc}
-use Rattle.aud_node.specs.Lists.{numbers_from}
+-- The first that passes, of a list or of numbers, and what a loop over numbers has added.
+use Rattle.std.proofs.Common.{◌≡◌, ◌<◌, ◌≤◌, ◌+◌, ◌-◌, ◌++◌, ℕ, suc, Bool, true, false, cond, List, [], ◌∷◌, Some, None, find, flat_map, refl, sym, ap, ◌∙◌, arith, add-one, append_assoc}
+use Rattle.std.specs.Prelude.{position}
+use Rattle.aud_node.specs.Lists.{first_index, numbers_from}
 use Rattle.aud_session_facts.proofs.Steps.{given-more}
+
+pub first_position : {X : Type 0} (test : X → Bool) (xs : List X) → first_index test xs ≡ position test xs
+first_position test [] = refl
+first_position test (x ∷ xs) = grind (arith, first_position test xs)
 
 module _ (test : ℕ → Bool) (n end : ℕ) where
   begins : n < end → find test (numbers_from n (end - n)) ≡ cond (test n) (Some n) (find test (numbers_from (suc n) (end - suc n)))

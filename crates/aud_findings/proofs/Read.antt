@@ -4,7 +4,7 @@ use Rattle.std.specs.List.{AllZip, list_any}
 use Rattle.std.proofs.lemmas.List.{take_more, length-set}
 use Rattle.std.proofs.lemmas.Bool.Decides.{nat_tests}
 use Rattle.std.proofs.lemmas.List.Folds.{list_any-append}
-use Rattle.std.proofs.lemmas.Option.{slice_get-get_or, slice_get_within}
+use Rattle.std.proofs.lemmas.Option.{same_Some, slice_get-get_or, slice_get_within}
 use Rattle.std.proofs.lemmas.Slice.Zip.{AllZip-long}
 use Rattle.std.proofs.Math.Bool.{or-false, or-true}
 use Rattle.aud_base.specs.Lists.{numbers_from}
@@ -17,7 +17,7 @@ pub use Rattle.aud_client.proofs.Giving.{zip_append}
 use Rattle.aud_rows.proofs.Stays.{zip_at}
 use Rattle.aud_findings.specs.declared.prepared.Prepared.{Prepared}
 use Rattle.aud_findings.specs.Prepared.{AreRead, IsRead}
-use Rattle.aud_findings.specs.Private.ReadTaps.{AreWanted, IsReadBy, is_wanted}
+use Rattle.aud_findings.specs.Private.ReadTaps.{AreWanted, IsReadBy}
 
 -- ---- two lists, element by element
 
@@ -62,18 +62,20 @@ wanted_more count i places old new h was more =
 -- what was read of each tap was read of all
 pub read_all : (c : Cluster) (places : List ℕ) (orders : Bool) (wanted : List Bool) (prepared : Prepared)
     → AreWanted (length c.taps) places wanted
-    → AllZip (IsReadBy c wanted orders) (numbers_from 0 (length c.taps)) prepared.taps.items
+    → AllZip (IsReadBy c wanted orders) (numbers_from 0 (length wanted)) prepared.taps.items
     → AreRead c places orders prepared
 read_all c places orders wanted prepared are zip =
-    let long : length prepared.taps.items ≡ length c.taps =
-    AllZip-long (IsReadBy c wanted orders) (numbers_from 0 (length c.taps)) prepared.taps.items zip ∙ length-numbers 0 (length c.taps) in
+    let long : length prepared.taps.items ≡ length wanted =
+    AllZip-long (IsReadBy c wanted orders) (numbers_from 0 (length wanted)) prepared.taps.items zip ∙ length-numbers 0 (length wanted) in
     record {
-      length_is = long;
+      length_is = long ∙ are.length_is;
       each = λ place tap there.
-          let within : place < length c.taps = subst (λ n. place < n) long (slice_get_within prepared.taps.items place tap there) in
-          let (other, at) = element_at c.taps place within in
-          let number : slice_get (numbers_from 0 (length c.taps)) place ≡ Some place =
-          slice_get-numbers 0 c.taps place ∙ ap (option_map (λ _. 0 + place)) at ∙ ap Some (zero-add place) in
-          subst (λ b. IsRead c b orders place tap) (ap is_wanted (are.each place within))
-          (zip_at (IsReadBy c wanted orders) (numbers_from 0 (length c.taps)) prepared.taps.items zip place place tap number there);
+          let within : place < length wanted = subst (λ n. place < n) long (slice_get_within prepared.taps.items place tap there) in
+          let (other, at) = element_at wanted place within in
+          let number : slice_get (numbers_from 0 (length wanted)) place ≡ Some place =
+          slice_get-numbers 0 wanted place ∙ ap (option_map (λ _. 0 + place)) at ∙ ap Some (zero-add place) in
+          let asked : get_or wanted place false ≡ list_any (nat_eq place) places =
+          same_Some _ _ (sym (slice_get-get_or wanted place false within) ∙ are.each place (subst (λ n. place < n) are.length_is within)) in
+          subst (λ b. IsRead c b orders place tap) asked
+          (zip_at (IsReadBy c wanted orders) (numbers_from 0 (length wanted)) prepared.taps.items zip place place tap number there);
     }

@@ -1,9 +1,13 @@
--- The rows that tell of a difference how it comes to be one.
-use Rattle.std.specs.Prelude.{true, List, [], Option}
+-- The rows that tell of a difference how it comes to be one: by changes of rooms, or since the node of a turn was behind
+-- the one before it.
+use Rattle.std.specs.Prelude.{◌-◌, ◌&&◌, ℕ, Bool, true, false, List, [], length, Option, Some, None, if◌then◌else◌, nat_lt, nat_le, slice_get}
+use Rattle.std.specs.List.{find}
 use Rattle.std.specs.Option.{option_and_then}
+use Rattle.aud_tap.specs.declared.records.StreamRec.{StreamRec}
+use Rattle.aud_node.specs.Lists.{numbers_from}
 use Rattle.aud_node.specs.Cluster.{Cluster}
 use Rattle.aud_client.specs.StaySeen.{StaySeen}
-use Rattle.aud_cert.specs.Certificate.{CertificateSeen}
+use Rattle.aud_cert.specs.Certificate.{CertificateSeen, TurnSeen, turn_at}
 use Rattle.aud_maker.specs.Made.{IsMade}
 use Rattle.aud_check.specs.declared.difference.Difference.{Difference}
 use Rattle.aud_check.specs.declared.difference.Difference.TheVariants.{Extra, Doubled, Swapped, Lost}
@@ -13,9 +17,49 @@ use Rattle.aud_rows.specs.declared.row.Role.{Role}
 use Rattle.aud_rows.specs.declared.row.Role.TheVariants.{Left, Room}
 use Rattle.aud_rows.specs.Rows.{node_row}
 use Rattle.aud_rows.specs.Seen.{RowSeen}
+use Rattle.aud_rows.specs.TurnRows.{begin_row, break_row}
+use Rattle.aud_session_facts.specs.Ahead.{ahead_of}
 use Rattle.aud_session_facts.specs.RowLists.{row_and}
-use Rattle.aud_findings.specs.Behind.{behind_rows}
+use Rattle.aud_session_facts.specs.StayTurns.{stay_of_frame, stays_match}
 use Rattle.aud_findings.specs.RoomChanges.{left_change, not_due_change, room_change}
+
+-- ---- a node that was behind
+
+-- the one turn had reached the position, and the next began in front of it
+abbrev pub is_behind : ℕ → Option TurnSeen → Option TurnSeen → Bool
+is_behind p (Some before) (Some next) = nat_le p before.high && nat_lt next.low p
+is_behind p _ _ = false
+
+-- so it is of the turn with this number and the one before it
+abbrev pub is_behind_at : ℕ → List TurnSeen → ℕ → Bool
+is_behind_at p turns number = is_behind p (slice_get turns (number - 1)) (slice_get turns number)
+
+-- the number of the first turn that began behind the one before it, with the position between; turns count from 0
+abbrev pub first_behind : ℕ → List TurnSeen → Option ℕ
+first_behind p turns = find (is_behind_at p turns) (numbers_from 1 (length turns - 1))
+
+-- the number of the turn that may have been behind where this frame of the session came, with the entry at the position:
+-- that of the frame's stay, where the stays match the turns; where they don't, the records don't tell which turn that is,
+-- and it is the first that began behind the one before it
+abbrev pub turn_looked_at : List StreamRec → List TurnSeen → List StaySeen → ℕ → ℕ → Option ℕ
+turn_looked_at stream turns stays frame p =
+    if stays_match stream turns stays then Some (stay_of_frame stays 0 frame) else first_behind p turns
+
+-- the rows of the `break` of the one turn, and of the `back` that begins the other
+abbrev pub rows_between : Cluster → List TapLines → Option TurnSeen → Option TurnSeen → List RowSeen
+rows_between c lines (Some before) (Some turn) = row_and (break_row c lines (turn_at c before)) (row_and (begin_row c lines (turn_at c turn)) [])
+rows_between c lines _ _ = []
+
+-- so it is of the turn with this number, and of the last one before it that had reached the position
+abbrev pub behind_rows_at : Cluster → List TapLines → List TurnSeen → ℕ → Option ℕ → List RowSeen
+behind_rows_at c lines turns p None = []
+behind_rows_at c lines turns p (Some number) = rows_between c lines (ahead_of p turns number) (slice_get turns number)
+
+-- the `break` and the `back` between which the node of the frame's turn was behind
+abbrev pub behind_rows : Cluster → List TapLines → List TurnSeen → List StaySeen → ℕ → ℕ → List RowSeen
+behind_rows c lines turns stays frame p = behind_rows_at c lines turns p (turn_looked_at c.stream turns stays frame p)
+
+-- ---- all of a difference
 
 -- the row of a change of a room, if there is one
 abbrev pub change_row : Cluster → List TapLines → Role → Option RoomChange → Option RowSeen

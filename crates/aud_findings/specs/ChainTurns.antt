@@ -15,8 +15,7 @@ use Rattle.aud_explanation.specs.declared.turn.TurnBegin.TheVariants.{Open, Back
 use Rattle.aud_findings.specs.declared.timeline.span.TurnSpan.{TurnSpan}
 use Rattle.aud_findings.specs.declared.timeline.span.Ends.{Ends}
 use Rattle.aud_findings.specs.declared.timeline.span.Ends.TheVariants.{ByBreak, ByGone, ByLog}
-use Rattle.aud_findings.specs.ShownTurn.{ShownTurn}
-use Rattle.aud_findings.specs.SpanShown.{span_shown}
+use Rattle.aud_findings.specs.ShownTurn.{ShownTurn, span_shown}
 
 -- how a turn of the session ends, where this is the last of its records: by the session's `break` or `gone`, or else
 -- with the log

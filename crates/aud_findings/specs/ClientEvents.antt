@@ -28,15 +28,9 @@ abbrev pub is_asked : Text → Option AskedSeen → Bool
 is_asked pid None = false
 is_asked pid (Some asked) = bytes_eq asked.pid pid
 
--- there is a stay, and its client asked for the session
-abbrev pub asks_for : Text → Option StaySeen → Bool
-asks_for pid None = false
-asks_for pid (Some stay) = is_asked pid stay.asked
-
--- there is a stay, and what came in it may be of the session: its answer names the session, or none came
-abbrev pub may_be_of : Text → Option StaySeen → Bool
-may_be_of pid None = false
-may_be_of pid (Some stay) = is_none stay.reply || stay_names_pid pid stay
+-- what came in the stay may be of the session: its answer names the session, or none came
+abbrev pub may_be_of : Text → StaySeen → Bool
+may_be_of pid stay = is_none stay.reply || stay_names_pid pid stay
 
 -- what the answer is, where the stay asked for the session or didn't, and the answer names it or doesn't
 abbrev pub answered : Bool → Bool → Option Happens
@@ -64,45 +58,33 @@ row_events stream pid asked row = option_to_list (option_and_then (event_of stre
 
 -- ---- stays
 
--- how many frames the stay has
-abbrev pub frame_count : Option StaySeen → ℕ
-frame_count None = 0
-frame_count (Some stay) = length stay.frames
+-- what happened in the record of this row of the stay
+abbrev pub stay_row_events : List StreamRec → Text → StaySeen → Option RowSeen → List ClientEvent
+stay_row_events stream pid stay row = row_events stream pid (is_asked pid stay.asked) row
 
--- whether the stay with this number of the client's tap at this place asked for the session
-abbrev pub stay_asks : Cluster → ℕ → Text → ℕ → Bool
-stay_asks c place pid number = asks_for pid (slice_get (stays_at c place) number)
+-- the entries that the client received in the stay, which has this number in the client's tap at this place
+abbrev pub frame_events : Cluster → List TapLines → ℕ → Text → ℕ → StaySeen → List ClientEvent
+frame_events c lines place pid number stay =
+    flat_map (λ frame. stay_row_events c.stream pid stay (frame_row c lines place number frame role.Later)) (numbers_from 0 (length stay.frames))
 
--- what happened in the record of this row of that stay
-abbrev pub stay_row_events : Cluster → ℕ → Text → ℕ → Option RowSeen → List ClientEvent
-stay_row_events c place pid number row = row_events c.stream pid (stay_asks c place pid number) row
+-- the entries that the client received in the stay, and the loss of the connection, where they may be of the session
+abbrev pub later_events : Cluster → List TapLines → ℕ → Text → ℕ → StaySeen → List ClientEvent
+later_events c lines place pid number stay =
+    if may_be_of pid stay
+    then frame_events c lines place pid number stay ++ stay_row_events c.stream pid stay (lost_row c lines place number role.Later)
+    else []
 
--- the entries that the client received in that stay
-abbrev pub frame_events : Cluster → List TapLines → ℕ → Text → ℕ → List ClientEvent
-frame_events c lines place pid number =
-    flat_map (λ frame. stay_row_events c place pid number (frame_row c lines place number frame role.Later))
-    (numbers_from 0 (frame_count (slice_get (stays_at c place) number)))
-
--- the entries that the client received in that stay, and the loss of the connection
-abbrev pub received_events : Cluster → List TapLines → ℕ → Text → ℕ → List ClientEvent
-received_events c lines place pid number =
-    frame_events c lines place pid number ++ stay_row_events c place pid number (lost_row c lines place number role.Later)
-
--- the same where they may be of the session
-abbrev pub later_events : Cluster → List TapLines → ℕ → Text → ℕ → List ClientEvent
-later_events c lines place pid number =
-    if may_be_of pid (slice_get (stays_at c place) number) then received_events c lines place pid number else []
-
--- what happened in that stay: what was asked, the answer, the entries, the loss of the connection
-abbrev pub stay_events : Cluster → List TapLines → ℕ → Text → ℕ → List ClientEvent
-stay_events c lines place pid number =
-    stay_row_events c place pid number (ask_row c lines place number role.Ask)
-    ++ (stay_row_events c place pid number (reply_row c lines place number role.Reply)
-    ++ later_events c lines place pid number)
+-- what happened in the stay, if there is one: what was asked, the answer, the entries, the loss of the connection
+abbrev pub events_in : Cluster → List TapLines → ℕ → Text → ℕ → Option StaySeen → List ClientEvent
+events_in c lines place pid number None = []
+events_in c lines place pid number (Some stay) =
+    stay_row_events c.stream pid stay (ask_row c lines place number role.Ask)
+    ++ (stay_row_events c.stream pid stay (reply_row c lines place number role.Reply)
+    ++ later_events c lines place pid number stay)
 
 -- what happened in the stays with these numbers, stay after stay
 abbrev pub events_of_stays : Cluster → List TapLines → ℕ → Text → List ℕ → List ClientEvent
-events_of_stays c lines place pid numbers = flat_map (stay_events c lines place pid) numbers
+events_of_stays c lines place pid numbers = flat_map (λ number. events_in c lines place pid number (slice_get (stays_at c place) number)) numbers
 
 -- ---- the timeline
 

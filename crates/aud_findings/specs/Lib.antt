@@ -25,7 +25,6 @@ pub mod ShowsNames
 pub mod ShowsFrame
 pub mod ShowsOrphan
 -- faults of the delivery
-pub mod Behind
 pub mod RoomChanges
 pub mod BesideRows
 pub mod ShowsFound
@@ -38,7 +37,6 @@ pub mod ClientShown
 -- what happened when
 pub mod InOrder
 pub mod ShownTurn
-pub mod SpanShown
 pub mod ChainTurns
 pub mod MarkedTurns
 pub mod Runs

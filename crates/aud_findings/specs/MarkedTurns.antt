@@ -14,8 +14,7 @@ use Rattle.aud_findings.specs.declared.timeline.span.LastRecord.{LastRecord}
 use Rattle.aud_findings.specs.declared.timeline.span.Ends.{Ends}
 use Rattle.aud_findings.specs.declared.timeline.span.Ends.TheVariants.{ByBreak, ByGone, ByLog, Missing}
 use Rattle.aud_findings.specs.InOrder.{in_order}
-use Rattle.aud_findings.specs.ShownTurn.{ShownTurn}
-use Rattle.aud_findings.specs.SpanShown.{span_shown}
+use Rattle.aud_findings.specs.ShownTurn.{ShownTurn, span_shown}
 
 -- ---- where a turn begins
 
@@ -53,7 +52,7 @@ end_open is_followed before log_end =
 -- that mark, which may begin another one
 abbrev pub last_at : Bool → ℕ → TurnMark → Option Ends → LastRecord
 last_at is_followed log_end next (Some ends) = record { number = next.place.number; ends = ends }
-last_at is_followed log_end next None = end_open (is_followed || is_some (begins_by next.mark)) (next.place.number - 1) log_end
+last_at is_followed log_end next None = end_open (is_some (begins_by next.mark) || is_followed) (next.place.number - 1) log_end
 
 -- the last record of this turn, by the next mark on its node, if there is one, and the number of the log's last record
 abbrev pub last_by : ℕ → Bool → ℕ → Option TurnMark → LastRecord

@@ -1,5 +1,4 @@
 -- What contracts of private functions alone cite. No public clause rests on these words.
-pub mod InRanges
 pub mod Known
 pub mod ReadTaps
 pub mod Seen

@@ -4,7 +4,7 @@ use Rattle.std.specs.List.{filter}
 use Rattle.std.specs.Option.{option_map}
 use Rattle.aud_node.specs.Cluster.{Cluster}
 use Rattle.aud_node.specs.Stream.{Text}
-use Rattle.aud_session_facts.specs.Account.{IsFound, difference_found, is_parting}
+use Rattle.aud_session_facts.specs.Account.{IsFound, difference_found}
 use Rattle.aud_cert.specs.declared.class.Class.{Class}
 use Rattle.aud_cert.specs.declared.class.Class.TheVariants.{Delivery}
 use Rattle.aud_cert.specs.Class.{class_of}
@@ -28,11 +28,6 @@ is_delivery _ = false
 abbrev pub is_judged : Verdict → Bool
 is_judged (Yes got tail turns) = true
 is_judged (No fault) = is_delivery (class_of fault)
-
--- the verdict is that what was received parts from what was due
-abbrev pub is_parted : Verdict → Bool
-is_parted (Yes got tail turns) = false
-is_parted (No fault) = is_parting fault
 
 -- ---- the figures
 

@@ -1,30 +1,47 @@
 //! The other entries that have the same fault, with the lines that show it.
-ghost use Rattle.std.specs.Prelude.{◌≡◌, IfOk, IfSome, is_some, true};
-ghost use Rattle.aud_session_facts.specs.Account.{IsAccountOf};
+ghost use Rattle.std.specs.Prelude.{◌≡◌, IfOk, IfSome, MatchOption, filter, is_some, map, nat_eq, not};
+ghost use Rattle.aud_session_facts.specs.Account.{IsAccountOf, IsFound, stays_of};
 ghost use Rattle.aud_rows.specs.ClientPlaces.{AreOf};
 ghost use Rattle.aud_findings.specs.Prepared.{IsPreparedOf};
-ghost use Rattle.aud_findings.specs.Also.{AreAlso, IsAlsoShown, also_seen, entry_lines, got_lines, lines_at, no_others, others_seen, range_shown, told_of};
-ghost use Rattle.aud_verdict.specs.declared.verdict.Verdict.TheVariants.{No};
-ghost use Rattle.aud_findings.specs.Private.InRanges.{range_seen};
+ghost use Rattle.aud_findings.specs.Also.{AreAllOf, AreAlso, AreOthers, AreParted, HasNoOthers, IsAlsoShown, IsNotParted, altered_positions, is_another, lines_for, no_others, others_seen};
 
-use crate::altered::altered_also;
-use crate::lines::{entry_lines, frame_lines};
-use crate::others::others;
-use crate::outcome::{AlsoShown, OthersShown};
+use crate::lines::told;
+use crate::others::{ascending, others};
+use crate::outcome::OthersShown;
 use crate::prepared::{Prepared, tap_at};
-use crate::ranges::{Range, ranges_of};
 use crate::record_at::numbers_naming;
-use crate::tail::tail_also;
+use crate::tail::tail_in;
 use aud_cert::Fault;
-use aud_check::Difference;
+use aud_check::{Difference, frames_in};
+use aud_client::{Frame, Recording, is_entry};
+use aud_node::Stream;
 use aud_rows::{ClientPlaces, Sheet};
 use aud_session_facts::{Account, positions_received};
 use aud_verdict::Verdict;
 use std::alloc::{AllocError, Global};
 
+/// By which lines it is shown that an entry has a fault.
+#[derive(Clone, Copy, Drop)]
+pub(crate) enum LinesOf {
+    /// By that of the entry, which never came.
+    Entry,
+    /// By those of all its frames.
+    Frames,
+    /// By that of the entry, and those of its frames that aren't it.
+    Altered,
+}
+
+/// Other entries with a fault: their positions, ascending, and by which lines they are shown.
+#[derive(Drop)]
+struct Others {
+    by: LinesOf,
+    positions: Vec<u64>,
+}
+
 /// The other entries that have the fault, where the verdict is that what was received parts from what was due, or ends
-/// before it, or that a frame isn't its entry, and there is an account; else none. The tap of the client is read where
-/// it wasn't prepared.
+/// before it, or that a frame isn't its entry, and there is an account; else none. They are at most a hundred ranges of
+/// positions, ascending, and a count of the entries past these. The tap of the client is read where it wasn't prepared.
+/// Each of the ranges costs what was received.
 pub(crate) fn also_found<'r, 'a>(
     alloc: Global,
     sheet: &Sheet<'r, 'a>,
@@ -70,136 +87,132 @@ fn also_by<'r, 'a>(
     requires tap { AreOf sheet.now.recording.now tap.now }
     requires place { tap.now.place ≡ account.now.client }
     requires account { IsAccountOf sheet.now.recording.now pid.now account.now }
-    ensures { IfOk result (λ also. IsAlsoShown sheet.now.recording.now sheet.now.lines.now pid.now
-        true (No fault.now) (others_seen also)) }
-{
-    match fault {
-        Fault::Extra(_) | Fault::Doubled(_) | Fault::Swapped(_) | Fault::Lost(_) => {
-            also_of(alloc, sheet, tap, pid, account)
-        }
-        Fault::Content(_) => altered_also(alloc, sheet, tap, pid, account),
-        Fault::Tail(_) => tail_also(alloc, sheet, account),
-        _ => Ok(no_others(alloc)),
-    }
-}
-
-/// The other entries with the fault of the difference between what was received of the session and what was due to it;
-/// none where that isn't what is wrong first. Each of a hundred ranges at most costs what was received.
-fn also_of<'r, 'a>(
-    alloc: Global,
-    sheet: &Sheet<'r, 'a>,
-    tap: &ClientPlaces,
-    pid: &str,
-    account: &Account<'r, 'a>,
-) -> Result<OthersShown, AllocError>
-    requires tap { AreOf sheet.now.recording.now tap.now }
-    requires place { tap.now.place ≡ account.now.client }
-    requires account { IsAccountOf sheet.now.recording.now pid.now account.now }
     ensures { IfOk result (λ also. AreAlso sheet.now.recording.now sheet.now.lines.now pid.now
-        (others_seen also)) }
+        fault.now (others_seen also)) }
 {
-    let Some(difference) = account.difference() else {
+    let found = others_with(alloc, sheet.recording, fault, account)?;
+    let Some(others) = found else {
         return Ok(no_others(alloc));
     };
-    let numbers = numbers_naming(sheet.recording, tap.place, pid);
-    let stays = account.stays.as_slice();
-    let got = positions_received(alloc, stays)?;
-    let received = got.as_slice();
-    let keys = sheet.recording.logs().keys();
-    let found = others(alloc, keys, received, account.due.as_slice(), difference)?;
-    let entries = found.as_slice();
-    all_shown(alloc, sheet, tap, numbers, received, difference, entries)
+    let numbers = numbers_naming(sheet.recording, account.client, pid);
+    let came = frames_in(alloc, account.stays.as_slice())?;
+    let frames = came.as_slice();
+    let positions = others.positions.as_slice();
+    told(alloc, sheet, tap, numbers, frames, others.by, positions)
 }
 
-/// These entries, with their lines: those that never came as they stand in the stream, and else as they came.
-fn all_shown(
+/// The others that have this fault, by the account of the session; none where none are told of.
+fn others_with(
     alloc: Global,
-    sheet: &Sheet<'_, '_>,
-    tap: &ClientPlaces,
-    numbers: &[usize],
-    received: &[u64],
-    difference: Difference,
-    others: &[u64],
-) -> Result<OthersShown, AllocError>
-    requires { AreOf sheet.now.recording.now tap.now }
-    ensures { IfOk result (λ also. others_seen also
-        ≡ told_of (lines_at sheet.now.recording.now sheet.now.lines.now tap.now.place numbers.now
-        received.now difference) others.now) }
+    recording: &Recording<'_>,
+    fault: &Fault,
+    account: &Account<'_, '_>,
+) -> Result<Option<Others>, AllocError>
+    requires { IsFound recording.now account.now.client (stays_of account.now)
+        account.now.due.items account.now.found }
+    ensures { IfOk result (λ found. MatchOption found
+        (HasNoOthers recording.now account.now.client (stays_of account.now)
+        account.now.due.items fault.now)
+        (λ others. AreOthers recording.now.stream (stays_of account.now) account.now.due.items
+        fault.now others.by others.positions.items)) }
+{
+    let stays = account.stays.as_slice();
+    match fault {
+        Fault::Extra(_) | Fault::Doubled(_) | Fault::Swapped(_) | Fault::Lost(_) => {
+            parted_others(alloc, recording, account)
+        }
+        Fault::Content(_) => {
+            let frames = frames_in(alloc, stays)?;
+            let stream = recording.logs().stream();
+            let altered = altered_positions(alloc, stream, frames.as_slice())?;
+            let by = LinesOf::Altered;
+            let positions = past_first(alloc, altered.as_slice())?;
+            Ok(Some(Others { by, positions }))
+        }
+        Fault::Tail(_) => {
+            let received = positions_received(alloc, stays)?;
+            let tail = tail_in(alloc, received.as_slice(), account.due.as_slice())?;
+            let by = LinesOf::Entry;
+            let positions = past_first(alloc, tail.as_slice())?;
+            Ok(Some(Others { by, positions }))
+        }
+        _ => Ok(None),
+    }
+}
+
+/// Those with the fault of the difference between what was received and what was due; none where that isn't what is wrong
+/// first.
+fn parted_others(
+    alloc: Global,
+    recording: &Recording<'_>,
+    account: &Account<'_, '_>,
+) -> Result<Option<Others>, AllocError>
+    requires { IsFound recording.now account.now.client (stays_of account.now)
+        account.now.due.items account.now.found }
+    ensures { IfOk result (λ found. MatchOption found
+        (IsNotParted recording.now account.now.client (stays_of account.now)
+        account.now.due.items)
+        (λ others. AreParted (stays_of account.now) account.now.due.items others.by
+        others.positions.items)) }
+{
+    let Some(difference) = account.difference() else {
+        return Ok(None);
+    };
+    let received = positions_received(alloc, account.stays.as_slice())?;
+    let keys = recording.logs().keys();
+    let due = account.due.as_slice();
+    let by = lines_for(difference);
+    let positions = others(alloc, keys, received.as_slice(), due, difference)?;
+    Ok(Some(Others { by, positions }))
+}
+
+/// By which lines others with the fault of the difference are shown: as they never came, or as they came.
+fn lines_for(difference: Difference) -> LinesOf
+    ensures { result ≡ lines_for difference }
 {
     match difference {
-        Difference::Lost { .. } => entries_also(alloc, sheet, others),
-        _ => frames_also(alloc, sheet, tap, numbers, received, others),
+        Difference::Lost { .. } => LinesOf::Entry,
+        _ => LinesOf::Frames,
     }
 }
 
-/// The entries at these positions, each as it stands in the stream.
-pub(crate) fn entries_also(
+/// The positions of the frames that aren't the entry there, in the order in which they came.
+fn altered_positions(
     alloc: Global,
-    sheet: &Sheet<'_, '_>,
-    positions: &[u64],
-) -> Result<OthersShown, AllocError>
-    ensures { IfOk result (λ also. others_seen also
-        ≡ told_of (entry_lines sheet.now.recording.now sheet.now.lines.now) positions.now) }
+    stream: &Stream<'_>,
+    frames: &[&Frame<'_>],
+) -> Result<Vec<u64>, AllocError>
+    ensures { IfOk result (λ found. found.items
+        ≡ altered_positions stream.now (map (λ frame. frame.now) frames.now)) }
 {
-    let entries = ranges_of(alloc, positions, 100)?;
-    let mut ranges = Vec::new(alloc);
-    for range in &entries.found {
-        let first = entry_lines(alloc, sheet, range.first)?;
-        let last = entry_lines(alloc, sheet, range.last)?;
-        ranges.push(range_shown(*range, first, &last)?)?;
-    }
-    Ok(OthersShown {
-        ranges,
-        left: entries.left,
-    })
-}
-
-/// The entries at these positions, each as it came, where these are the positions of all frames.
-fn frames_also(
-    alloc: Global,
-    sheet: &Sheet<'_, '_>,
-    tap: &ClientPlaces,
-    numbers: &[usize],
-    received: &[u64],
-    positions: &[u64],
-) -> Result<OthersShown, AllocError>
-    requires { AreOf sheet.now.recording.now tap.now }
-    ensures { IfOk result (λ also. others_seen also
-        ≡ told_of (got_lines sheet.now.recording.now sheet.now.lines.now tap.now.place numbers.now
-        received.now) positions.now) }
-{
-    let entries = ranges_of(alloc, positions, 100)?;
-    let mut ranges = Vec::new(alloc);
-    for range in &entries.found {
-        let first = frame_lines(alloc, sheet, tap, numbers, received, range.first)?;
-        let last = frame_lines(alloc, sheet, tap, numbers, received, range.last)?;
-        ranges.push(range_shown(*range, first, &last)?)?;
-    }
-    Ok(OthersShown {
-        ranges,
-        left: entries.left,
-    })
-}
-
-/// The range, where these are the lines of its first entry and of its last one.
-pub(crate) fn range_shown(
-    range: Range,
-    first: Vec<u64>,
-    last: &[u64],
-) -> Result<AlsoShown, AllocError>
-    ensures { IfOk result (λ also. also_seen also
-        ≡ range_shown (range_seen range) first.items last.now) }
-{
-    let mut lines = first;
-    if range.first != range.last {
-        lines.truncate(1);
-        if let Some(line) = last.last() {
-            lines.push(*line)?;
+    let mut found = Vec::new(alloc);
+    for frame in frames {
+        if !is_entry(stream, *frame) {
+            found.push(frame.position)?;
         }
     }
-    Ok(AlsoShown {
-        position: range.first,
-        to: range.last,
-        lines,
-    })
+    Ok(found)
+}
+
+/// Those of the positions that are others than the first one in this list: ascending, each once.
+fn past_first(alloc: Global, positions: &[u64]) -> Result<Vec<u64>, AllocError>
+    ensures { IfOk result (λ found. AreAllOf (is_another positions.now) found.items) }
+{
+    let Some((first, later)) = positions.split_first() else {
+        return Ok(Vec::new(alloc));
+    };
+    let found = others_than(alloc, *first, later)?;
+    Ok(ascending(found))
+}
+
+/// Those of the positions that aren't this one.
+fn others_than(alloc: Global, first: u64, positions: &[u64]) -> Result<Vec<u64>, AllocError>
+    ensures { IfOk result (λ found. found.items
+        ≡ filter (λ p. not (nat_eq p first)) positions.now) }
+{
+    positions
+        .iter()
+        .copied()
+        .filter(|position| *position != first)
+        .collect(alloc)
 }

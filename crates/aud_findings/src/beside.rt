@@ -4,8 +4,7 @@ ghost use Rattle.aud_maker.specs.Made.{IsMade};
 ghost use Rattle.aud_rows.specs.Seen.{row_seen};
 ghost use Rattle.aud_rows.specs.TrueRow.{IsTrueRow};
 ghost use Rattle.aud_session_facts.specs.RowLists.{row_and};
-ghost use Rattle.aud_findings.specs.Behind.{behind_rows, first_behind, is_behind_at};
-ghost use Rattle.aud_findings.specs.BesideRows.{beside_rows, change_row};
+ghost use Rattle.aud_findings.specs.BesideRows.{behind_rows, beside_rows, change_row, first_behind, is_behind_at};
 
 use crate::rooms::{left_change, not_due_change, room_change};
 use aud_cert::{Certificate, Turn, turn_place};

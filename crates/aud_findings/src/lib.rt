@@ -33,7 +33,6 @@
 
 mod account;
 mod also;
-mod altered;
 mod beside;
 mod chain;
 mod evidence;

@@ -60,7 +60,7 @@ pub fn orphan_in(recording: &Recording<'_>, prepared: &Prepared, place: usize) -
 }
 
 /// The same, found in its stays.
-#[tactic(auto, using(crate::proofs::Told::told_some, crate::proofs::Told::told_none, crate::proofs::Firsts::first_position))]
+#[tactic(auto, using(crate::proofs::Told::told_some, crate::proofs::Told::told_none, crate::proofs::Numbers::first_position))]
 pub(crate) fn orphan_at(recording: &Recording<'_>, place: usize) -> Option<usize>
     ensures { result ≡ first_index is_orphan (stays_at recording.now place) }
 {

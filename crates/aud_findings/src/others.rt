@@ -52,10 +52,18 @@ fn among(
         (λ p. has_position positions.now p && is_also_by against.now difference p) found.items) }
 {
     let seen = seen_in(alloc, keys, against)?;
-    let mut found = all_others(alloc, &seen, positions, difference)?;
-    found.sort_unstable();
-    found.dedup();
-    Ok(found)
+    let found = all_others(alloc, &seen, positions, difference)?;
+    Ok(ascending(found))
+}
+
+/// These positions, ascending, each once.
+pub(crate) fn ascending(positions: Vec<u64>) -> Vec<u64>
+    ensures { AreAllOf (has_position positions.items) result.items }
+{
+    let mut all = positions;
+    all.sort_unstable();
+    all.dedup();
+    all
 }
 
 /// Those of the positions that have it, against those that were seen.

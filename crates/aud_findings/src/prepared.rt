@@ -1,12 +1,12 @@
 //! What is read once of a recording for all its explanations.
-ghost use Rattle.std.specs.Prelude.{◌≡◌, IfOk, IfSome, length, slice_get, slice_set, true};
+ghost use Rattle.std.specs.Prelude.{◌≡◌, IfOk, IfSome, length, slice_set, true};
 ghost use Rattle.std.specs.List.{AllZip};
 ghost use Rattle.std.specs.Option.{option_copied};
 ghost use Rattle.aud_base.specs.Lists.{numbers_from};
 ghost use Rattle.aud_node.specs.Cluster.{Cluster};
 ghost use Rattle.aud_rows.specs.ClientPlaces.{AreOf};
 ghost use Rattle.aud_findings.specs.Prepared.{AreRead, IsPreparedOf, IsRead, tap_in};
-ghost use Rattle.aud_findings.specs.Private.ReadTaps.{AreWanted, IsReadBy, held_places, is_wanted};
+ghost use Rattle.aud_findings.specs.Private.ReadTaps.{AreWanted, IsReadBy, held_places};
 
 use crate::order::first_unordered;
 use crate::orphan::orphan_at;
@@ -130,17 +130,7 @@ fn mark(wanted: &mut Vec<bool>, place: usize)
     }
 }
 
-/// Whether the place is wanted, by these marks.
-fn is_wanted(wanted: &[bool], place: usize) -> bool
-    ensures { result ≡ is_wanted (slice_get wanted.now place) }
-{
-    match wanted.get(place) {
-        Some(wanted) => *wanted,
-        None => false,
-    }
-}
-
-/// What is read of each tap.
+/// What is read of each tap, where these are wanted.
 fn read_taps(
     alloc: Global,
     recording: &Recording<'_>,
@@ -148,13 +138,11 @@ fn read_taps(
     orders: bool,
 ) -> Result<Vec<PreparedTap>, AllocError>
     ensures { IfOk result (λ taps. AllZip (IsReadBy recording.now wanted.now orders)
-        (numbers_from 0 (length recording.now.taps)) taps.items) }
+        (numbers_from 0 (length wanted.now)) taps.items) }
 {
-    let count = recording.logs().taps().len();
-    let mut taps = Vec::with_capacity(alloc, count)?;
-    for place in 0..count {
-        let asked = is_wanted(wanted, place);
-        let tap = read_tap(alloc, recording, asked, orders, place)?;
+    let mut taps = Vec::with_capacity(alloc, wanted.len())?;
+    for (place, asked) in wanted.iter().enumerate() {
+        let tap = read_tap(alloc, recording, *asked, orders, place)?;
         taps.push(tap)?;
     }
     Ok(taps)

@@ -1,7 +1,6 @@
 //! Ranges of positions that follow one another.
-ghost use Rattle.std.specs.Prelude.{◌≡◌, ◌+◌, ◌++◌, ◌≤◌, ℕ, suc, IfOk, length, map};
+ghost use Rattle.std.specs.Prelude.{◌≡◌, ◌+◌, ◌++◌, ◌≤◌, ℕ, suc, IfOk, length};
 ghost use Rattle.aud_findings.specs.Also.{following, past_ranges, ranges};
-ghost use Rattle.aud_findings.specs.Private.InRanges.{range_seen};
 
 use std::alloc::{AllocError, Global};
 
@@ -22,7 +21,7 @@ pub(crate) struct Ranges {
 
 /// At most so many ranges of the positions, from the front, each as long as it can be.
 pub(crate) fn ranges_of(alloc: Global, positions: &[u64], most: usize) -> Result<Ranges, AllocError>
-    ensures ranges { IfOk result (λ r. map range_seen r.found.items ≡ ranges most positions.now) }
+    ensures ranges { IfOk result (λ r. r.found.items ≡ ranges most positions.now) }
     ensures left { IfOk result (λ r. r.left ≡ length (past_ranges most positions.now)) }
 {
     let mut found = Vec::new(alloc);
@@ -39,8 +38,8 @@ pub(crate) fn ranges_of(alloc: Global, positions: &[u64], most: usize) -> Result
 /// Adds the range from the front, if there is one, and gives the positions after it.
 fn take_range<'p>(found: &mut Vec<Range>, positions: &'p [u64]) -> Result<&'p [u64], AllocError>
     ensures ranges { (more : ℕ) → IfOk result (λ rest.
-        map range_seen found.new.items ++ ranges more rest.now
-        ≡ map range_seen found.old.items ++ ranges (suc more) positions.now) }
+        found.new.items ++ ranges more rest.now
+        ≡ found.old.items ++ ranges (suc more) positions.now) }
     ensures left { (more : ℕ) → IfOk result (λ rest.
         past_ranges more rest.now ≡ past_ranges (suc more) positions.now) }
 {

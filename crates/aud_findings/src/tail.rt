@@ -1,21 +1,17 @@
 //! What shows a session's tail: what was due to it past all that its client received.
-ghost use Rattle.std.specs.Prelude.{◌≡◌, IfOk, IfSome, drop, map, option_map};
+ghost use Rattle.std.specs.Prelude.{◌≡◌, IfOk, IfSome, map, option_map};
 ghost use Rattle.aud_node.specs.Stream.{Text};
 ghost use Rattle.aud_cert.specs.Certificate.{turn_at};
-ghost use Rattle.aud_session_facts.specs.Account.{IsAccountOf};
 ghost use Rattle.aud_rows.specs.Seen.{row_seen};
 ghost use Rattle.aud_rows.specs.ClientPlaces.{AreOf};
 ghost use Rattle.aud_rows.specs.TrueRow.{IsTrueRow};
 ghost use Rattle.aud_session_facts.specs.RowLists.{AreTrueRows};
-ghost use Rattle.aud_findings.specs.Also.{AreTailAlso, others_seen};
 ghost use Rattle.aud_findings.specs.Received.{tail_positions};
 ghost use Rattle.aud_findings.specs.Tail.{ShowsTail, reached_row, tail_rows};
 ghost use Rattle.aud_findings.specs.Private.Known.{IsShownBy};
 
 use crate::account::greatest;
-use crate::also::entries_also;
 use crate::lines::frame_row;
-use crate::outcome::OthersShown;
 use crate::rooms::reach_of;
 use aud_cert::Turn;
 use aud_rows::{Role, Row, Sheet};
@@ -84,24 +80,8 @@ fn reached_row<'r>(sheet: &Sheet<'r, '_>, turns: &[Turn<'_>], position: u64) -> 
     sheet.node_row(reach.node, reach.number, Role::Reached)
 }
 
-/// The entries of the session's tail after its first one.
-pub(crate) fn tail_also(
-    alloc: Global,
-    sheet: &Sheet<'_, '_>,
-    account: &Account<'_, '_>,
-) -> Result<OthersShown, AllocError>
-    ensures { (pid : Text)
-        → IsAccountOf sheet.now.recording.now pid account.now
-        → IfOk result (λ also. AreTailAlso sheet.now.recording.now sheet.now.lines.now pid
-        (others_seen also)) }
-{
-    let got = positions_received(alloc, account.stays.as_slice())?;
-    let tail = tail_in(alloc, got.as_slice(), account.due.as_slice())?;
-    entries_also(alloc, sheet, after_first(tail.as_slice()))
-}
-
 /// The positions of the tail where these were received and these due.
-fn tail_in(alloc: Global, received: &[u64], due: &[u64]) -> Result<Vec<u64>, AllocError>
+pub(crate) fn tail_in(alloc: Global, received: &[u64], due: &[u64]) -> Result<Vec<u64>, AllocError>
     ensures { IfOk result (λ tail. tail.items ≡ tail_positions received.now due.now) }
 {
     let last = greatest(received);
@@ -109,11 +89,4 @@ fn tail_in(alloc: Global, received: &[u64], due: &[u64]) -> Result<Vec<u64>, All
         .copied()
         .filter(|position| last < *position)
         .collect(alloc)
-}
-
-/// The positions after the first.
-fn after_first(positions: &[u64]) -> &[u64]
-    ensures { result.now ≡ drop 1 positions.now }
-{
-    positions.get(1..).unwrap_or(positions)
 }

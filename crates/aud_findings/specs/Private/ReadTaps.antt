@@ -1,6 +1,6 @@
 -- What is read of taps: which are asked for, and where the packets of a client's tap stand, as they are held.
-use Rattle.std.specs.Prelude.{◌≡◌, ◌<◌, ℕ, Bool, false, List, length, Option, Some, None, nat_eq, slice_get}
-use Rattle.std.specs.List.{list_any}
+use Rattle.std.specs.Prelude.{◌≡◌, ◌<◌, ℕ, Bool, false, List, length, Some, nat_eq, slice_get}
+use Rattle.std.specs.List.{list_any, slice_index_or}
 use Rattle.aud_node.specs.Cluster.{Cluster}
 use Rattle.aud_rows.specs.declared.client_places.ClientPlaces.{ClientPlaces}
 use Rattle.aud_findings.specs.declared.prepared.HeldTap.{HeldTap}
@@ -13,14 +13,9 @@ pub record AreWanted (count : ℕ) (places : List ℕ) (wanted : List Bool) : Ty
   pub length_is : length wanted ≡ count
   pub each : (place : ℕ) → place < count → slice_get wanted place ≡ Some (list_any (nat_eq place) places)
 
--- whether a place is wanted, by whether it is known to be
-abbrev pub is_wanted : Option Bool → Bool
-is_wanted (Some wanted) = wanted
-is_wanted None = false
-
 -- this is read of the tap at the place, where these are wanted
 abbrev pub IsReadBy : Cluster → List Bool → Bool → ℕ → PreparedTap → Type 0
-IsReadBy c wanted orders place tap = IsRead c (is_wanted (slice_get wanted place)) orders place tap
+IsReadBy c wanted orders place tap = IsRead c (slice_index_or wanted place false) orders place tap
 
 abbrev pub held_places : HeldTap → ClientPlaces
 held_places (Kept places) = places.now

@@ -1,10 +1,11 @@
 //! What happened to the client of a session.
-ghost use Rattle.std.specs.Prelude.{◌≡◌, ◌++◌, IfOk, OnOk};
-ghost use Rattle.std.specs.Option.{option_copied, option_map};
+ghost use Rattle.std.specs.Prelude.{◌≡◌, ◌++◌, IfOk, OnOk, slice_get};
+ghost use Rattle.std.specs.Option.{option_map};
 ghost use Rattle.aud_node.specs.Stream.{position};
 ghost use Rattle.aud_rows.specs.ClientPlaces.{AreOf};
 ghost use Rattle.aud_rows.specs.Seen.{row_seen, says_seen};
-ghost use Rattle.aud_findings.specs.ClientEvents.{asks_for, client_events, frame_count, frame_events, happens_of, may_be_of, row_events, stay_events};
+ghost use Rattle.aud_rows.specs.StayRows.{stays_at};
+ghost use Rattle.aud_findings.specs.ClientEvents.{client_events, events_in, frame_events, happens_of, is_asked, may_be_of, row_events};
 
 use crate::record_at::stay_at;
 use crate::timeline::runs::joined_events;
@@ -51,10 +52,13 @@ fn push_stay(
     requires { AreOf sheet.now.recording.now tap.now }
     ensures { OnOk result (events.new.items
         ≡ events.old.items
-        ++ stay_events sheet.now.recording.now sheet.now.lines.now tap.now.place pid.now number) }
+        ++ events_in sheet.now.recording.now sheet.now.lines.now tap.now.place pid.now number
+        (slice_get (stays_at sheet.now.recording.now tap.now.place) number)) }
 {
-    let stay = stay_at(sheet.recording, tap.place, number);
-    let asked = asks_for(pid, stay);
+    let Some(stay) = stay_at(sheet.recording, tap.place, number) else {
+        return Ok(());
+    };
+    let asked = is_asked(pid, stay);
     let ask = sheet.ask_row(tap, number, Role::Ask);
     push_row(sheet, events, pid, asked, ask)?;
     let reply = sheet.reply_row(tap, number, Role::Reply);
@@ -62,27 +66,28 @@ fn push_stay(
     if !may_be_of(pid, stay) {
         return Ok(());
     }
-    push_frames(sheet, tap, events, pid, number)?;
+    push_frames(sheet, tap, events, pid, number, stay)?;
     let lost = sheet.lost_row(tap, number, Role::Later);
     push_row(sheet, events, pid, asked, lost)
 }
 
-/// Adds the frames of the stay.
+/// Adds the frames of this stay, which has this number.
 fn push_frames(
     sheet: &Sheet<'_, '_>,
     tap: &ClientPlaces,
     events: &mut Vec<ClientEvent>,
     pid: &str,
     number: usize,
+    stay: &Stay<'_>,
 ) -> Result<(), AllocError>
     requires { AreOf sheet.now.recording.now tap.now }
     ensures { OnOk result (events.new.items
         ≡ events.old.items
-        ++ frame_events sheet.now.recording.now sheet.now.lines.now tap.now.place pid.now number) }
+        ++ frame_events sheet.now.recording.now sheet.now.lines.now tap.now.place pid.now number
+        stay.now) }
 {
-    let stay = stay_at(sheet.recording, tap.place, number);
-    let asked = asks_for(pid, stay);
-    for frame in 0..frame_count(stay) {
+    let asked = is_asked(pid, stay);
+    for frame in 0..stay.frames.len() {
         let row = sheet.frame_row(tap, number, frame, Role::Later);
         push_row(sheet, events, pid, asked, row)?;
     }
@@ -142,35 +147,19 @@ fn happens_of(stream: &Stream<'_>, pid: &str, asked: bool, says: Says<'_>) -> Op
     }
 }
 
-/// Whether there is a stay, and it asked for the session.
-fn asks_for(pid: &str, stay: Option<&Stay<'_>>) -> bool
-    ensures { result ≡ asks_for pid.now (option_copied stay.entry) }
+/// Whether the stay asked for the session.
+fn is_asked(pid: &str, stay: &Stay<'_>) -> bool
+    ensures { result ≡ is_asked pid.now stay.now.asked }
 {
-    let Some(stay) = stay else {
-        return false;
-    };
     match stay.asked.as_ref() {
         Some(asked) => asked.pid.as_str() == pid,
         None => false,
     }
 }
 
-/// Whether there is a stay, and what came in it may be of the session.
-fn may_be_of(pid: &str, stay: Option<&Stay<'_>>) -> bool
-    ensures { result ≡ may_be_of pid.now (option_copied stay.entry) }
+/// Whether what came in the stay may be of the session.
+fn may_be_of(pid: &str, stay: &Stay<'_>) -> bool
+    ensures { result ≡ may_be_of pid.now stay.now }
 {
-    match stay {
-        Some(stay) => stay.reply.is_none() || stay.names(pid),
-        None => false,
-    }
-}
-
-/// How many frames the stay has, if there is one.
-fn frame_count(stay: Option<&Stay<'_>>) -> usize
-    ensures { result ≡ frame_count (option_copied stay.entry) }
-{
-    match stay {
-        Some(stay) => stay.frames.len(),
-        None => 0,
-    }
+    stay.reply.is_none() || stay.names(pid)
 }

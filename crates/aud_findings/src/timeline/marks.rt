@@ -1,7 +1,7 @@
 //! The turns of a session by the records that begin or end them, whether or not these are a chain of turns.
 ghost use Rattle.std.specs.Prelude.{◌≡◌, ◌<◌, ◌-◌, ◌^◌, IfOk, map};
 ghost use Rattle.aud_findings.specs.ShownTurn.{turn_seen};
-ghost use Rattle.aud_findings.specs.MarkedTurns.{begins_by, end_open, greatest_turn, last_by, last_number, mark_span, marked_turns, next_on, span_from, turn_number};
+ghost use Rattle.aud_findings.specs.MarkedTurns.{end_open, greatest_turn, last_by, last_number, mark_span, marked_turns, next_on, turn_number};
 
 use crate::timeline::span::{Ends, LastRecord, TurnSpan, push_span};
 use aud_explanation::{TurnBegin, TurnShown};
@@ -38,53 +38,23 @@ fn mark_span(logs: &Logs<'_>, greatest: u16, marks: &[TurnMark], number: usize) 
     ensures { result ≡ mark_span logs.now greatest marks.now number }
 {
     let mark = *marks.get(number)?;
-    let next = next_on(mark.place.node, marks.get(number + 1).copied());
-    span_from(logs, greatest, mark, next)
-}
-
-/// The mark, if there is one, and it is on this node.
-fn next_on(node: usize, next: Option<TurnMark>) -> Option<TurnMark>
-    ensures { result ≡ next_on node next }
-{
-    match next {
-        Some(next) if next.place.node == node => Some(next),
-        _ => None,
-    }
-}
-
-/// The turn that the mark begins, where this is the next one on its node.
-fn span_from(
-    logs: &Logs<'_>,
-    greatest: u16,
-    mark: TurnMark,
-    next: Option<TurnMark>,
-) -> Option<TurnSpan>
-    ensures { result ≡ span_from logs.now greatest mark next }
-{
-    let begin = begins_by(mark.mark)?;
-    let turn = turn_number(mark.mark);
-    let log_end = last_number(logs, mark.place.node);
-    let last = last_by(turn, turn < greatest, log_end, next);
+    let (turn, begin) = match mark.mark {
+        Mark::Open => (0, TurnBegin::Open),
+        Mark::Back { turn } => (turn, TurnBegin::Back),
+        _ => return None,
+    };
+    let next = marks.get(number + 1).copied();
+    let node = mark.place.node;
+    let log_end = last_number(logs, node);
+    let last = last_by(turn, turn < greatest, log_end, node, next);
     Some(TurnSpan {
         turn,
         begin,
-        node: mark.place.node,
+        node,
         first: mark.place.number,
         last: last.number,
         ends: last.ends,
     })
-}
-
-/// By which record the mark begins a turn, if it does.
-fn begins_by(mark: Mark) -> Option<TurnBegin>
-    ensures { result ≡ begins_by mark }
-{
-    match mark {
-        Mark::Open => Some(TurnBegin::Open),
-        Mark::Back { .. } => Some(TurnBegin::Back),
-        Mark::Break { .. } => None,
-        Mark::Gone => None,
-    }
 }
 
 /// The number of the turn that the mark begins, 0 where it begins none.
@@ -118,15 +88,23 @@ fn last_number(logs: &Logs<'_>, node: usize) -> usize
     }
 }
 
-/// The last record of this turn, by the next mark of the session on the node, if there is one. The node's log ends with
-/// the record `log_end`.
-fn last_by(turn: u16, is_followed: bool, log_end: usize, next: Option<TurnMark>) -> LastRecord
-    ensures { result ≡ last_by turn is_followed log_end next }
+/// The last record of this turn of a session, by the session's next mark, if that is on this node. The node's log ends
+/// with the record `log_end`.
+fn last_by(
+    turn: u16,
+    is_followed: bool,
+    log_end: usize,
+    node: usize,
+    next: Option<TurnMark>,
+) -> LastRecord
+    ensures { result ≡ last_by turn is_followed log_end (next_on node next) }
 {
-    let Some(next) = next else {
-        return end_open(is_followed, log_end, log_end);
+    let next = match next {
+        Some(next) if next.place.node == node => next,
+        _ => return end_open(is_followed, log_end, log_end),
     };
     let number = next.place.number;
+    let before = number.saturating_sub(1);
     match next.mark {
         Mark::Break { turn: other } if other == turn => LastRecord {
             number,
@@ -136,10 +114,8 @@ fn last_by(turn: u16, is_followed: bool, log_end: usize, next: Option<TurnMark>)
             number,
             ends: Ends::ByGone,
         },
-        _ => {
-            let begins = begins_by(next.mark).is_some();
-            end_open(is_followed || begins, number.saturating_sub(1), log_end)
-        }
+        Mark::Break { .. } => end_open(is_followed, before, log_end),
+        Mark::Open | Mark::Back { .. } => end_open(true, before, log_end),
     }
 }
 

@@ -1,11 +1,9 @@
 //! The turns of a session, by their records, and as a timeline shows them.
 ghost use Rattle.std.specs.Prelude.{◌≡◌, ◌++◌, OnOk, map, option_to_list};
 ghost use Rattle.std.specs.Option.{option_and_then, option_map};
-ghost use Rattle.aud_findings.specs.ShownTurn.{turn_seen};
-ghost use Rattle.aud_findings.specs.SpanShown.{cursor_past, end_shown, span_shown, took_until};
+ghost use Rattle.aud_findings.specs.ShownTurn.{end_shown, span_shown, took_until, turn_seen};
 
 use aud_explanation::{TurnBegin, TurnEnd, TurnShown};
-use aud_node::Logs;
 use aud_rows::Sheet;
 use std::alloc::AllocError;
 
@@ -50,10 +48,10 @@ fn span_shown<'r>(sheet: &Sheet<'r, '_>, span: TurnSpan) -> Option<TurnShown<'r>
     let logs = sheet.recording.logs();
     let tap = logs.taps().get(span.node)?;
     let begin_line = sheet.lines.line_of(span.node, span.first)?;
-    let low = cursor_past(logs, span.node, span.first)?;
+    let log = logs.node(span.node)?;
+    let low = log.cursor_after(span.first)?;
     let last_line = sheet.lines.line_of(span.node, span.last);
-    let high = cursor_past(logs, span.node, span.last);
-    let end = end_shown(span.ends, last_line, high)?;
+    let end = end_shown(span.ends, last_line, log.cursor_after(span.last))?;
     Some(TurnShown {
         turn: span.turn,
         node: tap.name.as_str(),
@@ -63,13 +61,6 @@ fn span_shown<'r>(sheet: &Sheet<'r, '_>, span: TurnSpan) -> Option<TurnShown<'r>
         took: took_until(low, end),
         end,
     })
-}
-
-/// The cursor of the node at this place after its record with this number.
-fn cursor_past(logs: &Logs<'_>, node: usize, number: usize) -> Option<u64>
-    ensures { result ≡ cursor_past logs.now node number }
-{
-    logs.node(node)?.cursor_after(number)
 }
 
 /// The first position and the last one that a node took in a turn that begins at this cursor and ends so.

@@ -1,5 +1,5 @@
 use Rattle.std.proofs.Common.{sym, ◌∙◌, length}
-use Rattle.aud_findings.specs.Behind.{is_behind_at}
+use Rattle.aud_findings.specs.BesideRows.{is_behind_at}
 use Rattle.aud_findings.proofs.Numbers.{found_here, found_later, found_nowhere}
 use Rattle.aud_findings.proofs.beside.first_behind.Goals as goal
 

@@ -1,6 +1,6 @@
 use Rattle.std.proofs.Common.{◌≡◌, ◌-◌, length, find}
 use Rattle.aud_node.specs.Lists.{numbers_from}
-use Rattle.aud_findings.specs.Behind.{first_behind, is_behind_at}
+use Rattle.aud_findings.specs.BesideRows.{first_behind, is_behind_at}
 use Rattle.aud_findings.proofs.beside.first_behind.Given as goal
 
 -- none of the turns so far began behind the one before it

@@ -2,7 +2,6 @@ use Rattle.std.proofs.Common.{◌+◌, ◌++◌, ◌∷◌, [], sym, subst}
 use Rattle.std.specs.List.{AllZip}
 use Rattle.aud_base.specs.Lists.{numbers_from}
 use Rattle.aud_base.proofs.Numbers.{numbers_from-more}
-use Rattle.aud_findings.specs.Prepared.{IsRead}
 use Rattle.aud_findings.specs.Private.ReadTaps.{IsReadBy}
 use Rattle.aud_findings.proofs.Read.{zip_append}
 use Rattle.aud_findings.proofs.prepared.read_taps.Goals as goal
@@ -13,7 +12,6 @@ loop-place-preserved c =
     let place = c.loop-place.place in
     let taps = c.loop-place.taps.items in
     let tap = c.in_ok-tap.tap in
-    let read = subst (λ asked. IsRead c.args.recording.now asked c.args.orders place tap) c.is_wanted-asked.ensures c.in_ok-tap.ensures in
     subst (AllZip R (numbers_from 0 (place + 1))) (sym c.in_ok-push.ensures.items)
     (subst (λ ns. AllZip R ns (taps ++ tap ∷ [])) (sym (numbers_from-more place))
-    (zip_append R (numbers_from 0 place) taps (place ∷ []) (tap ∷ []) c.loop-place.invariant (read, tt)))
+    (zip_append R (numbers_from 0 place) taps (place ∷ []) (tap ∷ []) c.loop-place.invariant (c.in_ok-tap.ensures, tt)))

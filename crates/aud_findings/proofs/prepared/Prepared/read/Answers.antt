@@ -13,7 +13,7 @@ returns-clause-read c =
     let wanted = c.in_ok-wanted.wanted.items in
     read_all here places c.args.orders wanted (record { taps = c.in_ok-taps.taps })
     (subst (λ n. AreWanted n places wanted) (ap length (c.taps-count.ensures ∙ ap (λ (k : Cluster). k.taps) c.logs.ensures)) c.in_ok-wanted.ensures)
-    (subst (λ marks. AllZip (IsReadBy here marks c.args.orders) (numbers_from 0 (length here.taps)) c.in_ok-taps.taps.items) c.as_slice.ensures.value c.in_ok-taps.ensures)
+    (subst (λ marks. AllZip (IsReadBy here marks c.args.orders) (numbers_from 0 (length marks)) c.in_ok-taps.taps.items) c.as_slice.ensures.value c.in_ok-taps.ensures)
 
 pub returns-clause-prepared : goal.returns-clause-prepared
 returns-clause-prepared c = record { places = c.args.places.now; orders = c.args.orders; are_read = returns-clause-read c }

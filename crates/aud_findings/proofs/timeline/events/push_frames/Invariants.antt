@@ -9,4 +9,4 @@ abbrev pub invariant-loop-frame : goal.invariant-loop-frame
 invariant-loop-frame l =
     l.events.items
     ≡ l.initial.events.items
-    ++ flat_map (λ frame. stay_row_events l.sheet.recording.now l.tap.place l.pid l.number (frame_row l.sheet.recording.now l.sheet.lines.now l.tap.place l.number frame role.Later)) (numbers_from 0 l.frame)
+    ++ flat_map (λ frame. stay_row_events l.sheet.recording.now.stream l.pid l.stay (frame_row l.sheet.recording.now l.sheet.lines.now l.tap.place l.number frame role.Later)) (numbers_from 0 l.frame)

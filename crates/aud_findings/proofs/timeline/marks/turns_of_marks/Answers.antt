@@ -4,10 +4,9 @@ use Rattle.aud_node.specs.Cluster.{Cluster}
 use Rattle.aud_node.specs.Lists.{numbers_from}
 use Rattle.aud_explanation.specs.declared.turn.TurnShown.{TurnShown}
 use Rattle.aud_findings.specs.InOrder.{in_order}
-use Rattle.aud_findings.specs.ShownTurn.{ShownTurn, turn_seen}
+use Rattle.aud_findings.specs.ShownTurn.{ShownTurn, span_shown, turn_seen}
 use Rattle.aud_findings.proofs.OrderLemmas.{in_order-from_sort_by_key, map-in_order}
 use Rattle.aud_findings.specs.MarkedTurns.{greatest_turn, mark_shown, mark_span}
-use Rattle.aud_findings.specs.SpanShown.{span_shown}
 use Rattle.aud_session_facts.proofs.Steps.{given-more}
 use Rattle.aud_findings.proofs.timeline.marks.turns_of_marks.Goals as goal
 

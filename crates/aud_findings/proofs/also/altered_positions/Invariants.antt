@@ -1,6 +1,6 @@
 use Rattle.std.proofs.Common.{◌≡◌, ◌++◌, drop, map}
 use Rattle.aud_findings.specs.Also.{altered_positions}
-use Rattle.aud_findings.proofs.altered.altered_positions.Given as goal
+use Rattle.aud_findings.proofs.also.altered_positions.Given as goal
 
 -- those of the frames so far, and of those to come, are those of all
 abbrev pub invariant-loop-frame : goal.invariant-loop-frame
