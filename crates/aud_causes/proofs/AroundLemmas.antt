@@ -4,7 +4,7 @@ use Rattle.std.specs.Prelude.{nat_le}
 use Rattle.std.proofs.lemmas.Bool.Decides.{nat_tests}
 use Rattle.std.proofs.lemmas.List.{nil_from_length}
 use Rattle.std.proofs.lemmas.Str.{chars-nil, chars_past_char}
-use Rattle.aud_causes.specs.Excerpt.{around, near, points, shown_from}
+use Rattle.aud_causes.specs.Texts.{around, near, points, shown_from}
 
 pub around_empty : (at place : ℕ) (text : List ℕ) → length text ≡ 0 → around at place text ≡ []
 unfolding around

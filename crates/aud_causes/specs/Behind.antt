@@ -1,5 +1,5 @@
 -- A node that took a session back while it was behind the break.
-use Rattle.std.specs.Prelude.{ℕ, ◌-◌, List, Option, None, if◌then◌else◌, ◌&&◌, nat_lt, slice_get}
+use Rattle.std.specs.Prelude.{◌-◌, List, Option, None, if◌then◌else◌, ◌&&◌, nat_lt, slice_get}
 use Rattle.std.specs.Option.{option_and_then, option_map}
 use Rattle.aud_node.specs.Cluster.{Cluster}
 use Rattle.aud_cert.specs.Certificate.{TurnSeen, turn_at}

@@ -7,8 +7,7 @@ use Rattle.aud_explanation.specs.declared.cause.CauseState.{CauseState}
 use Rattle.aud_causes.specs.declared.cause.Cause.{Cause}
 use Rattle.aud_causes.specs.declared.found.CauseFound.{CauseFound}
 use Rattle.aud_causes.specs.Filled.{figure_text, filled}
-use Rattle.aud_causes.specs.Table.{row_of}
-use Rattle.aud_causes.specs.Words.{id_text}
+use Rattle.aud_causes.specs.Table.{row_of, id_text}
 use Rattle.aud_causes.specs.Records.{lines_at}
 use Rattle.aud_causes.specs.State.{state_of}
 use Rattle.aud_causes.specs.Texts.{texts_told}

@@ -7,14 +7,11 @@ pub use Rattle.aud_explanation.specs.CauseState
 pub mod Filled
 pub mod NoPacket
 pub mod Table
-pub mod Words
 pub mod Records
-pub mod Excerpt
 pub mod Texts
 pub mod Facts
 pub mod Delivery
 pub mod Behind
-pub mod NextChange
 pub mod Changed
 pub mod Extra
 pub mod AtBreak
@@ -30,9 +27,6 @@ pub mod Windows
 pub mod Names
 pub mod Orphans
 pub mod Turns
-pub mod Bare
-pub mod LastTurn
-pub mod TakenBack
 pub mod Cleared
 pub mod Twice
 pub mod Chain

@@ -1,5 +1,5 @@
 -- What a fault of a client's tap may come from.
-use Rattle.std.specs.Prelude.{ℕ, suc, zero, Bool, true, false, not, ◌&&◌, ◌||◌, List, [], ◌∷◌, Option, Some, None, is_none, is_some, if◌then◌else◌}
+use Rattle.std.specs.Prelude.{ℕ, suc, zero, Bool, true, false, not, ◌&&◌, ◌||◌, List, [], ◌∷◌, Option, Some, None, is_none, is_some, if◌then◌else◌, nat_eq, position, slice_get}
 use Rattle.std.specs.Option.{option_map}
 use Rattle.std.specs.Str.{bytes_eq}
 use Rattle.aud_tap.specs.declared.taps.Tap.{Tap}
@@ -11,10 +11,15 @@ use Rattle.aud_cert.specs.Certificate.{TurnSeen}
 use Rattle.aud_check.specs.NamedStays.{has_sid}
 use Rattle.aud_session_facts.specs.Opened.{opened_in}
 use Rattle.aud_causes.specs.declared.cause.Cause.{Cause}
-use Rattle.aud_causes.specs.declared.cause.Cause.TheVariants.{NoClientTap, ReplyMissing, TwoTaps, SidDiffers, NamespaceDiffers}
-use Rattle.aud_causes.specs.Bare.{tap_without_packets}
+use Rattle.aud_causes.specs.declared.cause.Cause.TheVariants.{NoClientTap, ReplyMissing, TwoTaps, SidDiffers, NamespaceDiffers, ClientTapHasNoPackets}
 use Rattle.aud_causes.specs.Delivery.{held}
 use Rattle.aud_causes.specs.Orphans.{is_disconnect, last_of_stay}
+use Rattle.aud_tap.specs.declared.records.ClientRec.{ClientRec}
+use Rattle.aud_tap.specs.declared.records.ClientRec.TheVariants.{Conn, Lost}
+use Rattle.aud_tap.specs.declared.taps.Records.{Records}
+use Rattle.aud_tap.specs.declared.taps.Records.TheVariants as records
+use Rattle.aud_session_facts.specs.Marks.{turn_marks}
+use Rattle.aud_causes.specs.Turns.{turn_count}
 
 -- ---- the taps that name the session
 
@@ -40,6 +45,43 @@ has_unnamed c place (Some transcript) = transcript.orphan || has_unanswered c pl
 abbrev pub unnamed_from : Cluster → ℕ → List Tap → Option ℕ
 unnamed_from c place [] = None
 unnamed_from c place (tap ∷ taps) = if has_unnamed c place (transcript_at c place) then Some place else unnamed_from c (suc place) taps
+
+-- ---- a connection without a packet
+
+-- there is a record, and it begins a connection
+abbrev pub begins_connection : Option ClientRec → Bool
+begins_connection (Some (Conn c)) = true
+begins_connection _ = false
+
+-- there is a record, and it is of packets: neither the begin of a connection nor its loss
+abbrev pub is_packet : Option ClientRec → Bool
+is_packet None = false
+is_packet (Some (Conn c)) = false
+is_packet (Some Lost) = false
+is_packet (Some _) = true
+
+-- ---- a tap that begins with one
+
+-- these are a client's, and the first begins a connection that no packet follows: it is lost, or another begins, or the
+-- tap ends there
+abbrev pub are_bare : Records → Bool
+are_bare (records.Client recs) = begins_connection (slice_get recs 0) && not (is_packet (slice_get recs 1))
+are_bare _ = false
+
+-- the tap is a client's, and its first connection has no packet
+abbrev pub is_bare : Tap → Bool
+is_bare tap = are_bare tap.records
+
+-- the place of the first such tap among these
+abbrev pub bare_place : List Tap → Option ℕ
+bare_place taps = position is_bare taps
+
+-- ---- the causes
+
+-- the session has one turn, so that its client had one connection; and a client's tap has one whose packets it doesn't
+-- have: the first such tap
+abbrev pub tap_without_packets : Cluster → Text → Option Cause
+tap_without_packets c pid = if nat_eq (turn_count 0 (turn_marks c pid)) 1 then option_map ClientTapHasNoPackets (bare_place c.taps) else None
 
 -- of so many clients' taps that name the session. None: no tap does; a tap, the first such, has a CONNECT or events of no
 -- known session; a tap has a connection without a packet, which may be the session's. Or several

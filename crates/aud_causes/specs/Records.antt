@@ -11,8 +11,8 @@ use Rattle.aud_rows.specs.StayRows.{ask_row, first_row, frame_row, reply_row, st
 use Rattle.aud_rows.specs.EndRows.{bad_row}
 use Rattle.aud_session_facts.specs.declared.shown.frame_place.FramePlace.{FramePlace}
 use Rattle.aud_session_facts.specs.FramePlaces.{frame_at}
-use Rattle.aud_causes.specs.declared.record_at.RecordAt.{RecordAt}
-use Rattle.aud_causes.specs.declared.record_at.RecordAt.TheVariants.{Node, Got, Ask, Reply, First, Bad}
+use Rattle.aud_causes.specs.declared.lines.RecordAt.{RecordAt}
+use Rattle.aud_causes.specs.declared.lines.RecordAt.TheVariants.{Node, Got, Ask, Reply, First, Bad}
 
 -- the row of a record of the client's tap at this place, where these are the numbers of the session's stays there
 abbrev pub client_row : Cluster → List TapLines → ℕ → List ℕ → RecordAt → Option RowSeen

@@ -1,6 +1,7 @@
 -- What the refusal of a recovery may come from.
-use Rattle.std.specs.Prelude.{ℕ, ◌-◌, ◌||◌, not, List, [], ◌∷◌, length, Option, Some, None, is_some, if◌then◌else◌, nat_le, nat_lt, slice_get}
-use Rattle.std.specs.Option.{option_map, option_and_then}
+use Rattle.std.specs.Prelude.{ℕ, ◌-◌, Bool, true, false, ◌||◌, not, List, [], ◌∷◌, length, Option, Some, None, is_some, if◌then◌else◌, nat_le, nat_lt, slice_get, drop, take}
+use Rattle.std.specs.List.{find, filter, list_any}
+use Rattle.std.specs.Option.{option_map, option_and_then, option_map_or}
 use Rattle.aud_node.specs.Cluster.{Cluster}
 use Rattle.aud_node.specs.NodeTap.{NodeTap, cursor_after}
 use Rattle.aud_node.specs.NodeTaps.{node_at}
@@ -15,10 +16,11 @@ use Rattle.aud_session_facts.specs.Marks.{turn_marks}
 use Rattle.aud_causes.specs.declared.cause.Cause.{Cause}
 use Rattle.aud_causes.specs.declared.cause.Cause.TheVariants.{NoOffset, UnknownOffset, SessionOver, NodeEndedInTurn, NeverBroken, AskedTooEarly}
 use Rattle.aud_causes.specs.Delivery.{cause_if, held}
-use Rattle.aud_causes.specs.LastTurn.{is_ended, last_begin, last_turn}
+use Rattle.aud_causes.specs.Turns.{is_ended, last_begin, last_turn, is_broken}
 use Rattle.aud_causes.specs.NamedEntries.{is_named}
-use Rattle.aud_causes.specs.TakenBack.{marks_before}
-use Rattle.aud_causes.specs.Turns.{is_broken}
+use Rattle.aud_causes.specs.Twice.{is_open}
+use Rattle.std.specs.Str.{bytes_eq}
+use Rattle.aud_client.specs.Received.{stay_names_pid}
 
 -- ---- the offset
 
@@ -34,23 +36,18 @@ offset_cause c (Some off) = unknown_offset c off (position c.stream off)
 
 -- ---- the records that begin and end turns
 
--- the first by which a node ends the session
-abbrev pub over_by : TurnMark → Mark → Option Cause → Option Cause
-over_by m mark.Gone rest = Some (SessionOver m.place)
-over_by m _ rest = rest
+-- it is the session's `gone`
+abbrev pub is_gone : Mark → Bool
+is_gone mark.Gone = true
+is_gone _ = false
 
+-- the first by which a node ends the session
 abbrev pub session_over : List TurnMark → Option Cause
-session_over [] = None
-session_over (m ∷ marks) = over_by m m.mark (session_over marks)
+session_over marks = option_map (λ (m : TurnMark). SessionOver m.place) (find (λ (m : TurnMark). is_gone m.mark) marks)
 
 -- the first by which a node opens it
-abbrev pub open_by : TurnMark → Mark → Option RecordPlace → Option RecordPlace
-open_by m mark.Open rest = Some m.place
-open_by m _ rest = rest
-
 abbrev pub first_open : List TurnMark → Option RecordPlace
-first_open [] = None
-first_open (m ∷ marks) = open_by m m.mark (first_open marks)
+first_open marks = option_map (λ (m : TurnMark). m.place) (find (λ (m : TurnMark). is_open m.mark) marks)
 
 -- the break of the last turn that has one, where this is the last so far, of this turn
 abbrev pub last_break : ℕ → Option RecordPlace → List TurnMark → Option RecordPlace
@@ -99,6 +96,26 @@ broke_past c broke begin =
 abbrev pub asked_too_early : Cluster → List TurnMark → List TurnMark → Option Cause
 asked_too_early c marks opening =
     option_and_then (λ broke. option_and_then (broke_past c broke) (first_open opening)) (last_break 0 None marks)
+
+-- ---- whether the session was taken back in the stay, or later
+
+-- the client asks for the session in the stay
+abbrev pub asks_for : Text → StaySeen → Bool
+asks_for pid stay = option_map_or (λ (asked : AskedSeen). bytes_eq asked.pid pid) stay.asked false
+
+-- how often it does so in these stays
+abbrev pub count_asks : Text → List StaySeen → ℕ
+count_asks pid stays = length (filter (asks_for pid) stays)
+
+-- the session was taken back in the stay with this number of its client's tap, or later: a recovery begins one turn, and
+-- the session has more turns after its first than recoveries were asked for before; or the client got it back
+abbrev pub is_taken_back : List TurnMark → List StaySeen → ℕ → Text → Bool
+is_taken_back marks stays number pid =
+    nat_lt (count_asks pid (take number stays)) (last_turn marks) || list_any (stay_names_pid pid) (drop number stays)
+
+-- the records that begin and end its turns, where its last turn is one before that stay: none where it was taken back
+abbrev pub marks_before : List TurnMark → List StaySeen → ℕ → Text → List TurnMark
+marks_before marks stays number pid = if is_taken_back marks stays number pid then [] else marks
 
 -- ---- the causes, in their order
 

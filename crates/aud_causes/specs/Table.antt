@@ -5,8 +5,8 @@ use Rattle.aud_check.specs.declared.content.Part.{Part}
 use Rattle.aud_check.specs.declared.content.Part.TheVariants as part
 use Rattle.aud_causes.specs.declared.why.Figure.{Figure}
 use Rattle.aud_causes.specs.declared.why.Figure.TheVariants.{Name, Number, Nth}
-use Rattle.aud_causes.specs.declared.record_at.RecordAt.{RecordAt}
-use Rattle.aud_causes.specs.declared.record_at.RecordAt.TheVariants.{Node, Got, Ask, Reply, First, Bad}
+use Rattle.aud_causes.specs.declared.lines.RecordAt.{RecordAt}
+use Rattle.aud_causes.specs.declared.lines.RecordAt.TheVariants.{Node, Got, Ask, Reply, First, Bad}
 use Rattle.aud_causes.specs.NoPacket.{advice, no_packet_figures, no_packet_words}
 use Rattle.aud_causes.specs.declared.cause.Cause.{Cause}
 use Rattle.aud_causes.specs.declared.cause.Cause.TheVariants.{NodeBehindBreak, SentAgainAfterReplay, ReplayIncludesOffset, DoubledInReplay, StaleOffset, BodyCameTwice, OffsetOfAnotherSession, FrameNotRecorded, UnknownOffset, NoOffset, RoomsAtBreak, SkippedInWindow, LostLive, DoubledLive, SwappedLive, SwappedInReplay, AnotherEncoder, AttachmentsReordered, AnotherEvent, Altered, LogEndedEarly, SentAfterEnd, LateLeave, BeforeBirth, ExtraLive, JoinMissing, LeaveMissing, RecoveryNotRecorded, MissingBreak, MissingBack, ClearedAfterBreak, TurnNotStored, RecoveredTwice, OpenedTwice, OpenNotRecorded, NodeNotTapped, NoStart, RestartedInOldLog, EntriesSkippedByNode, EntryTakenAgain, NotInStream, TwoTaps, NoClientTap, ReplyMissing, ClientTapHasNoPackets, SidDiffers, NamespaceDiffers, NotAPacket, TapBeganLate, CutBeforeReply, ReplyWithoutPid, OutAfterAnswer, SecondConnect, AfterDisconnect, SessionOver, NodeEndedInTurn, NeverBroken, AskedTooEarly}
@@ -222,3 +222,9 @@ row_of (NeverBroken begin) = row (codes "never-broken") (Node begin ∷ [])
 row_of (AskedTooEarly broke begin high low) = row (codes "asked-too-early") (Node broke ∷ Node begin ∷ [])
     (codes "The session broke with its node's cursor at #; another was opened instead with the cursor at #.") (Number high ∷ Number low ∷ [])
     (codes "let the client wait longer before it comes back, or the server notice a break sooner.")
+
+-- ---- the name of the cause
+
+-- the name of the cause, for scripts
+abbrev pub id_text : Cause → Text
+id_text cause = (row_of cause).id

@@ -53,6 +53,23 @@ abbrev pub turn_count : ℕ → List TurnMark → ℕ
 turn_count count [] = count
 turn_count count (m ∷ marks) = turn_count (count_with count (begun_turn m.mark)) marks
 
+-- ---- the last turn
+
+-- the number of the last turn that one of these begins
+abbrev pub last_turn : List TurnMark → ℕ
+last_turn marks = turn_count 0 marks - 1
+
+-- the first record that begins it
+abbrev pub last_begin : List TurnMark → Option RecordPlace
+last_begin marks = begin_of marks (last_turn marks)
+
+-- after this record one in the same log ends a turn
+abbrev pub is_ended : List TurnMark → RecordPlace → Bool
+is_ended marks begin =
+    list_any (λ (m : TurnMark). nat_eq m.place.node begin.node && nat_lt begin.number m.place.number && is_end m.mark) marks
+
+-- ---- what is known of each turn
+
 -- of each turn the first record that begins it
 abbrev pub begins_of : List TurnMark → List (Option RecordPlace)
 begins_of marks = map (begin_of marks) (numbers_from 0 (turn_count 0 marks))

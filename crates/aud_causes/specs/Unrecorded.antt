@@ -1,5 +1,5 @@
 -- A recovery of which no log has the turn.
-use Rattle.std.specs.Prelude.{ℕ, ◌-◌, List, length, Option, None, if◌then◌else◌, slice_get}
+use Rattle.std.specs.Prelude.{◌-◌, List, length, Option, None, if◌then◌else◌, slice_get}
 use Rattle.std.specs.Option.{option_map}
 use Rattle.aud_client.specs.StaySeen.{StaySeen}
 use Rattle.aud_cert.specs.Certificate.{TurnSeen}

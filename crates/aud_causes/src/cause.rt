@@ -53,14 +53,10 @@ pub enum Cause {
         stay: usize,
         after: u64,
     },
-    /// The client asked to go on after an offset that the stream doesn't have.
-    UnknownOffset {
-        stay: usize,
-    },
-    /// The client asked for the session, and gave no offset.
-    NoOffset {
-        stay: usize,
-    },
+    /// The client asked to go on, in this stay, after an offset that the stream doesn't have.
+    UnknownOffset(usize),
+    /// The client asked for the session in this stay, and gave no offset.
+    NoOffset(usize),
     /// What was replayed is what the rooms held at the break are addressed by.
     RoomsAtBreak {
         stay: usize,
@@ -73,10 +69,8 @@ pub enum Cause {
         after: u64,
         low: u64,
     },
-    /// An entry was left out while the client was connected.
-    LostLive {
-        frame: usize,
-    },
+    /// An entry was left out while the client was connected; this is the frame in its place.
+    LostLive(usize),
     /// An entry was sent twice while the client was connected.
     DoubledLive {
         first: usize,
@@ -97,14 +91,11 @@ pub enum Cause {
         frame: usize,
         part: Part,
     },
-    /// An event has its entry's attachments in another order.
-    AttachmentsReordered {
-        frame: usize,
-    },
-    /// An event has another name than its entry, or another number of arguments, or is of another namespace.
-    AnotherEvent {
-        frame: usize,
-    },
+    /// The event in this frame has its entry's attachments in another order.
+    AttachmentsReordered(usize),
+    /// The event in this frame has another name than its entry, or another number of arguments, or is of another
+    /// namespace.
+    AnotherEvent(usize),
     /// An event doesn't say what its entry says, or has other attachments; its text or attachments are not the entry's
     /// from this part on. Its sentence counts bytes and attachments from 1.
     Altered {
@@ -121,27 +112,20 @@ pub enum Cause {
         end: RecordPlace,
         high: u64,
     },
-    /// The session left a room of the entry before it reached the entry.
-    LateLeave {
-        leave: RecordPlace,
-    },
+    /// The session left a room of the entry, by this record, before it reached the entry.
+    LateLeave(RecordPlace),
     /// The node had taken the entry before it opened the session.
     BeforeBirth {
         begin: RecordPlace,
         low: u64,
     },
-    /// An entry that wasn't addressed to the session was sent while the client was connected.
-    ExtraLive {
-        frame: usize,
-    },
-    /// The entry would be due if the session had joined one of its rooms before.
-    JoinMissing {
-        frame: usize,
-    },
-    /// What came would fit if the session had left a room of the entry before, or one that it excepts.
-    LeaveMissing {
-        frame: usize,
-    },
+    /// An entry that wasn't addressed to the session was sent, in this frame, while the client was connected.
+    ExtraLive(usize),
+    /// The entry in this frame would be due if the session had joined one of its rooms before.
+    JoinMissing(usize),
+    /// What came from this frame on would fit if the session had left a room of the entry before, or one that it
+    /// excepts.
+    LeaveMissing(usize),
     /// The client was taken back more often than the logs have turns after the first. The stay is that of the first
     /// recovery past so many as there are turns.
     RecoveryNotRecorded {
@@ -184,21 +168,13 @@ pub enum Cause {
         again: RecordPlace,
     },
     /// A node is tapped, and no log has the `open` of the session; this is its first record in a node's log, if it has any.
-    OpenNotRecorded {
-        first: Option<RecordPlace>,
-    },
+    OpenNotRecorded(Option<RecordPlace>),
     /// No node's log has the begin of this turn, nor its `break`.
-    NodeNotTapped {
-        turn: usize,
-    },
-    /// A log's first record is no `start`.
-    NoStart {
-        first: RecordPlace,
-    },
-    /// A log goes on after a second `start`.
-    RestartedInOldLog {
-        start: RecordPlace,
-    },
+    NodeNotTapped(usize),
+    /// A log's first record, this one, is no `start`.
+    NoStart(RecordPlace),
+    /// A log goes on after a second `start`, which is this record.
+    RestartedInOldLog(RecordPlace),
     /// A node took an entry that isn't the next one.
     EntriesSkippedByNode {
         taken: RecordPlace,
@@ -211,48 +187,28 @@ pub enum Cause {
         cursor: u64,
         position: u64,
     },
-    /// A node took an entry that the stream doesn't have.
-    NotInStream {
-        taken: RecordPlace,
-    },
-    /// Several clients' taps name the session.
-    TwoTaps {
-        taps: usize,
-    },
+    /// A node took an entry that the stream doesn't have, by this record.
+    NotInStream(RecordPlace),
+    /// So many clients' taps, more than one, name the session.
+    TwoTaps(usize),
     /// No client's tap names the session.
     NoClientTap,
     /// A client's tap, at this place, has a CONNECT or events of no known session.
-    ReplyMissing {
-        client: usize,
-    },
+    ReplyMissing(usize),
     /// The first connection of a client's tap, at this place, has no packet, and the session has one turn.
-    ClientTapHasNoPackets {
-        client: usize,
-    },
-    /// A reply has another sid than the session's `open`.
-    SidDiffers {
-        stay: usize,
-    },
-    /// A reply is of another namespace than the session's `open`.
-    NamespaceDiffers {
-        stay: usize,
-    },
+    ClientTapHasNoPackets(usize),
+    /// The reply in this stay has another sid than the session's `open`.
+    SidDiffers(usize),
+    /// The reply in this stay is of another namespace than the session's `open`.
+    NamespaceDiffers(usize),
     /// A record of the client's tap is no packet; and why, where its decoder says so.
-    NotAPacket {
-        why: Option<NoPacket>,
-    },
+    NotAPacket(Option<NoPacket>),
     /// Events came in a stay without a reply; the stay has this number in the tap.
-    TapBeganLate {
-        stay: usize,
-    },
+    TapBeganLate(usize),
     /// The client asked for a session, and events came, but no reply; the stay has this number in the tap.
-    CutBeforeReply {
-        stay: usize,
-    },
+    CutBeforeReply(usize),
     /// The reply names nobody; the stay has this number in the tap.
-    ReplyWithoutPid {
-        stay: usize,
-    },
+    ReplyWithoutPid(usize),
     /// In an earlier stay of the connection the namespace was answered, where no session was asked for. The stays have
     /// these numbers in the tap.
     OutAfterAnswer {
@@ -270,18 +226,12 @@ pub enum Cause {
         before: usize,
         stay: usize,
     },
-    /// The session that was asked for was over.
-    SessionOver {
-        gone: RecordPlace,
-    },
+    /// The session that was asked for was over, by this record.
+    SessionOver(RecordPlace),
     /// The log of the node on which the session's last turn began ends in that turn; this is its last record.
-    NodeEndedInTurn {
-        last: RecordPlace,
-    },
+    NodeEndedInTurn(RecordPlace),
     /// The session that was asked for had not broken: no log has a break of its last turn, which begins here.
-    NeverBroken {
-        begin: RecordPlace,
-    },
+    NeverBroken(RecordPlace),
     /// The session that was asked for broke with its node's cursor past the one with which another was opened instead.
     AskedTooEarly {
         broke: RecordPlace,

@@ -1,20 +1,24 @@
-//! A change of a room that no log has: with it what came would be what was due.
-ghost use Rattle.std.specs.Prelude.{◌≡◌, IfOk};
+//! What came, against what is due where the rooms were others: those held at the break, or those of a change that no log
+//! has.
+ghost use Rattle.std.specs.Prelude.{◌≡◌, IfOk, map, nat_eq, slice_get};
 ghost use Rattle.aud_session_facts.specs.Opened.{opened_in};
 ghost use Rattle.aud_causes.specs.Leavable.{are_leavable, leave_missing, own_room};
-ghost use Rattle.aud_causes.specs.Changed.{fits_with, fits_with_any, namespace_in, spans_with, stretch_of};
+ghost use Rattle.aud_causes.specs.Changed.{fits_with, fits_with_any, namespace_in, spans_with, stretch_of, change_past, next_change, next_change_at};
+ghost use Rattle.std.specs.Cmp.Lexicographic.{pointwise};
+ghost use Rattle.aud_maker.specs.Made.{IsMade};
+ghost use Rattle.aud_causes.specs.AtBreak.{came_within, due_at_break, rooms_at_break};
 
-use crate::at_break::are_same;
 use crate::cause::Cause;
 use crate::extra::rooms_named;
-use crate::facts::Facts;
-use crate::live::is_taken_live;
-use crate::next_change::next_change;
-use aud_cert::Turn;
+use crate::facts::{Facts, Replay, is_replayed, is_taken_live};
+use crate::list::front_of;
+use aud_cert::{Certificate, Turn, turn_place};
+use aud_client::{Recording, Stay};
+use aud_maker::made_is_over;
 use aud_node::Logs;
 use aud_rooms::{Span, due_of};
-use aud_session_facts::opened_in;
-use aud_tap::Text;
+use aud_session_facts::{opened_in, spans_held};
+use aud_tap::{NodeRec, Text};
 use std::alloc::{AllocError, Global};
 use std::borrow::CowStr;
 
@@ -161,9 +165,7 @@ pub(crate) fn leave_missing(
     if !fits_with_any(alloc, session, false, position, rooms)? {
         return Ok(None);
     }
-    Ok(Some(Cause::LeaveMissing {
-        frame: facts.parted.again,
-    }))
+    Ok(Some(Cause::LeaveMissing(facts.parted.again)))
 }
 
 /// Whether these are rooms, and none of them is the session's own.
@@ -187,4 +189,182 @@ fn opened_names<'a>(turns: &[Turn<'a>]) -> (&'a str, &'a str)
         Some(opened) => (opened.sid, opened.nsp),
         None => ("", ""),
     }
+}
+
+/// The last position that the session of these turns had reached when it next joined or left the room, from the
+/// position on; none where no record says so. It costs the session's own records.
+pub(crate) fn next_change(
+    logs: &Logs<'_>,
+    pid: &str,
+    turns: &[Turn<'_>],
+    room: &str,
+    position: u64,
+) -> Option<u64>
+    ensures { result ≡ next_change logs.now pid.now turns.now room.now position }
+{
+    let mut next = None;
+    let mut high = 0;
+    for turn in turns {
+        let place = turn_place(logs, turn);
+        let numbers = place.own(logs, pid);
+        next = next.or(next_change_at(logs, place.node, pid, room, position, high, numbers));
+        high = turn.high.max(high);
+    }
+    next
+}
+
+/// The same by the node's records with these numbers, where the session had reached the one position in the turns before.
+fn next_change_at(
+    logs: &Logs<'_>,
+    node: usize,
+    pid: &str,
+    room: &str,
+    position: u64,
+    high: u64,
+    numbers: &[usize],
+) -> Option<u64>
+    ensures { result
+        ≡ next_change_at logs.now node pid.now room.now position high numbers.now }
+{
+    let mut next = None;
+    for number in numbers {
+        next = next.or(change_past(logs, node, pid, room, position, high, *number));
+    }
+    next
+}
+
+/// The same by the node's record with this number.
+fn change_past(
+    logs: &Logs<'_>,
+    node: usize,
+    pid: &str,
+    room: &str,
+    position: u64,
+    high: u64,
+    number: usize,
+) -> Option<u64>
+    ensures { result ≡ change_past logs.now node pid.now room.now position high number }
+{
+    let log = logs.node(node)?;
+    match log.recs().get(number) {
+        Some(
+            NodeRec::Join {
+                pid: other,
+                room: name,
+            }
+            | NodeRec::Leave {
+                pid: other,
+                room: name,
+            },
+        ) if other.as_str() == pid && name.as_str() == room => {
+            let reached = log.cursor_after(number)?.max(high);
+            if reached < position {
+                return None;
+            }
+            Some(reached)
+        }
+        _ => None,
+    }
+}
+
+/// Where the entry was to be replayed, and of all those that were exactly those came in the stay that are addressed to
+/// the rooms held at the break. It costs the session's own records, and what is addressed to these rooms.
+pub(crate) fn rooms_at_break(
+    alloc: Global,
+    recording: &Recording<'_>,
+    cert: &Certificate<'_>,
+    stays: &[&Stay<'_>],
+    facts: Facts,
+) -> Result<Option<Cause>, AllocError>
+    requires { IsMade recording.now cert.now.pid cert.now }
+    ensures { IfOk result (λ found. (made : IsMade recording.now cert.now.pid cert.now)
+        → found ≡ rooms_at_break recording.now made.who made.turns
+        (map (λ stay. stay.now) stays.now) facts) }
+{
+    let Some(replay) = facts.replay else {
+        return Ok(None);
+    };
+    if !is_replayed(replay, facts.parted.position) {
+        return Ok(None);
+    }
+    let due = due_at_break(alloc, recording, cert, facts.later, replay)?;
+    let came = came_within(alloc, stays, facts.later, replay)?;
+    if !are_same(came.as_slice(), due.as_slice()) {
+        return Ok(None);
+    }
+    Ok(Some(Cause::RoomsAtBreak {
+        stay: facts.later,
+        after: replay.after,
+        low: replay.low,
+    }))
+}
+
+/// Whether exactly these came, in this order.
+pub(crate) fn are_same(came: &[u64], due: &[u64]) -> bool
+    ensures { result ≡ pointwise nat_eq came.now due.now }
+{
+    came == due
+}
+
+/// Of the entries that were to be replayed, those that are addressed to the rooms held after so many turns.
+fn due_at_break(
+    alloc: Global,
+    recording: &Recording<'_>,
+    cert: &Certificate<'_>,
+    count: usize,
+    replay: Replay,
+) -> Result<Vec<u64>, AllocError>
+    requires { IsMade recording.now cert.now.pid cert.now }
+    ensures { IfOk result (λ due. (made : IsMade recording.now cert.now.pid cert.now)
+        → due.items ≡ due_at_break recording.now made.who made.turns count replay) }
+{
+    made_is_over();
+    recording.named_once();
+    let logs = recording.logs();
+    let turns = cert.turns.as_slice();
+    let Some(opened) = opened_in(turns) else {
+        unreachable!()
+    };
+    let pid = cert.pid.as_str();
+    let before = front_of(turns, count);
+    let spans = spans_held(
+        alloc,
+        logs,
+        pid,
+        opened.sid,
+        before,
+        replay.after,
+        replay.low,
+    )?;
+    let due = due_of(
+        alloc,
+        &spans,
+        logs.stream(),
+        opened.nsp,
+        replay.after,
+        replay.low,
+    )?;
+    due.into_owned(alloc)
+}
+
+/// The positions of the frames in the stay with this number that were to be replayed.
+fn came_within(
+    alloc: Global,
+    stays: &[&Stay<'_>],
+    number: usize,
+    replay: Replay,
+) -> Result<Vec<u64>, AllocError>
+    ensures { IfOk result (λ came. came.items
+        ≡ came_within (slice_get (map (λ stay. stay.now) stays.now) number) replay) }
+{
+    let mut came = Vec::new(alloc);
+    let Some(stay) = stays.get(number).copied() else {
+        return Ok(came);
+    };
+    for frame in &stay.frames {
+        if is_replayed(replay, frame.position) {
+            came.push(frame.position)?;
+        }
+    }
+    Ok(came)
 }

@@ -1,19 +1,19 @@
-//! What an event that isn't its entry may come from.
+//! What an event that isn't its entry may come from; whether two JSON values are the same.
 ghost use Rattle.std.specs.Prelude.{◌≡◌, IfOk, map, option_map};
-ghost use Rattle.serde_json.specs.View.{view};
+ghost use Rattle.serde_json.specs.View.{view, items_view, members_view, number_view};
 ghost use Rattle.aud_sio.specs.Message.{blob_bytes};
 ghost use Rattle.aud_sio.specs.Assembly.{blob_view};
 ghost use Rattle.aud_causes.specs.Contents.{are_same, are_same_in_any_order, content_causes, elements, event_causes, is_as_often, is_other_call, is_other_event, of_both, said_in, said_view, says_same};
+ghost use Rattle.aud_causes.specs.SameJson.{same_items, same_members, same_number, same_value};
 
 use crate::cause::Cause;
 use crate::list::held;
-use crate::same_json::same_value;
 use crate::texts::frame_of;
 use aud_check::Altered;
 use aud_client::{Frame, Recording};
 use aud_sio::{Blob, SioFault, decode};
 use aud_tap::{Bytes, Event, StreamRec};
-use serde_json::Value;
+use serde_json::{Map, Number, Value};
 use std::alloc::{AllocError, Global};
 
 /// The causes of the session's first frame that isn't its entry, where these are the numbers of its stays in the client's
@@ -67,9 +67,9 @@ fn event_causes(
         alloc,
         &[
             encoder.then_some(Cause::AnotherEncoder { frame, part }),
-            reordered.then_some(Cause::AttachmentsReordered { frame }),
+            reordered.then_some(Cause::AttachmentsReordered(frame)),
             changed.then_some(Cause::Altered { frame, part }),
-            other.then_some(Cause::AnotherEvent { frame }),
+            other.then_some(Cause::AnotherEvent(frame)),
         ],
     )
 }
@@ -195,4 +195,65 @@ fn is_as_often(bin: &[Blob<'_>], others: &[Bytes], one: &Bytes) -> bool
             .iter()
             .filter(|other| one == other.as_slice())
             .count()
+}
+
+/// Whether the values are the same.
+#[cycle(same)]
+pub(crate) fn same_value(one: &Value, other: &Value) -> bool
+    ensures { result ≡ same_value (view one.now) (view other.now) }
+{
+    match (one, other) {
+        (Value::Null, Value::Null) => true,
+        (Value::Bool(a), Value::Bool(b)) => *a == *b,
+        (Value::Number(a), Value::Number(b)) => same_number(*a, *b),
+        (Value::String(a), Value::String(b)) => a.as_str() == b.as_str(),
+        (Value::Array(a), Value::Array(b)) => same_items(a.as_slice(), b.as_slice()),
+        (Value::Object(a), Value::Object(b)) => same_members(a, b),
+        _ => false,
+    }
+}
+
+fn same_number(one: Number, other: Number) -> bool
+    ensures { result ≡ same_number (number_view one) (number_view other) }
+{
+    match (one.as_i128(), other.as_i128()) {
+        (Some(a), Some(b)) => a == b,
+        _ => match (one.as_f64(), other.as_f64()) {
+            (Some(a), Some(b)) => a == b,
+            _ => false,
+        },
+    }
+}
+
+#[cycle(same)]
+#[tactic(auto, using(crate::proofs::ItemLemmas::same_items_apart))]
+fn same_items(items: &[Value], others: &[Value]) -> bool
+    ensures { result ≡ same_items (items_view items.now) (items_view others.now) }
+{
+    if items.len() != others.len() {
+        return false;
+    }
+    for i in 0..items.len() {
+        if !same_value(&items[i], &others[i]) {
+            return false;
+        }
+    }
+    true
+}
+
+#[cycle(same)]
+fn same_members(members: &Map<String, Value>, others: &Map<String, Value>) -> bool
+    ensures { result ≡ same_members (members_view members.now.entries)
+        (members_view others.now.entries) }
+{
+    let mut left = others.iter();
+    for (key, member) in members.iter() {
+        let Some((name, value)) = left.next() else {
+            return false;
+        };
+        if key.as_str() != name.as_str() || !same_value(member, value) {
+            return false;
+        }
+    }
+    left.next().is_none()
 }

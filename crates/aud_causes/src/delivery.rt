@@ -1,27 +1,29 @@
-//! What a difference between what was received and what was due may come from.
-ghost use Rattle.std.specs.Prelude.{◌≡◌, ℕ, IfOk, List, map};
+//! What a difference between what was received and what was due may come from, and a recovery that was asked for where
+//! it does not fit.
+ghost use Rattle.std.specs.Prelude.{◌≡◌, ℕ, IfOk, List, map, slice_get};
 ghost use Rattle.aud_maker.specs.Made.{IsMade};
 ghost use Rattle.aud_causes.specs.Differences.{asked_past, case_of, causes_by, difference_causes, doubled_causes, extra_in, lost_in, offset_of_another, other_session_before, swapped_causes};
+ghost use Rattle.std.specs.Option.{option_copied};
+ghost use Rattle.aud_causes.specs.Windows.{by_misfit, offset_in, window_causes};
 
-use crate::at_break::rooms_at_break;
-use crate::behind::node_behind;
 use crate::bodies::body_twice;
 use crate::cause::Cause;
-use crate::changed::{Session, leave_missing};
+use crate::changed::{Session, leave_missing, rooms_at_break};
 use crate::extra::{
     before_birth, change_missing, extra_live, late_leave, log_ended_early, sent_after_end,
 };
-use crate::facts::{Facts, facts_of};
-use crate::list::{held, push_some};
-use crate::live::{
-    is_in_replay, is_live, is_taken_live, recovery_not_recorded, replay_includes_offset,
-    sent_again, skipped_in_window, stale_offset,
+use crate::facts::{
+    Facts, facts_of, is_in_replay, is_live, is_taken_live, node_behind, recovery_not_recorded,
+    replay_includes_offset, sent_again, skipped_in_window, stale_offset,
 };
+use crate::list::{held, push_some};
+use crate::recorded::is_named;
 use aud_cert::Turn;
-use aud_check::Difference;
+use aud_check::{BadWindow, Difference, Misfit};
 use aud_client::{Recording, Stay};
 use aud_node::Logs;
-use aud_session_facts::{Account, positions_received, why_not_due};
+use aud_session_facts::{Account, asked_after, positions_received, why_not_due};
+use aud_tap::Text;
 use std::alloc::{AllocError, Global};
 
 /// The causes of the difference, of those that a difference of its kind can have. The account is the session's, and
@@ -156,7 +158,7 @@ fn lost_of(
             at_break,
             skipped_in_window(facts),
             asked_past(account.due.as_slice(), facts),
-            is_taken_live(facts).then_some(Cause::LostLive { frame }),
+            is_taken_live(facts).then_some(Cause::LostLive(frame)),
             leave,
         ],
     )
@@ -246,4 +248,60 @@ pub(crate) fn offset_of_another(due: &[u64], stay: usize, asked: Option<u64>) ->
         return None;
     }
     Some(Cause::OffsetOfAnotherSession { stay, after })
+}
+
+/// The causes of a recovery that was asked for where it doesn't fit, where these are the session's stays, and these
+/// positions were due to it.
+pub(crate) fn window_causes(
+    alloc: Global,
+    logs: &Logs<'_>,
+    stays: &[&Stay<'_>],
+    due: &[u64],
+    window: BadWindow,
+) -> Result<Vec<Cause>, AllocError>
+    ensures { IfOk result (λ found. found.items
+        ≡ window_causes logs.now (map (λ stay. stay.now) stays.now) due.now window) }
+{
+    let asked = asked_after(logs.stream(), stays, window.stay);
+    let off = offset_in(stays, window.stay);
+    held(
+        alloc,
+        &[
+            by_misfit(logs, window, off, asked),
+            offset_of_another(due, window.stay, asked),
+        ],
+    )
+}
+
+/// The offset with which the client asked in the stay with this number.
+fn offset_in<'s>(stays: &[&'s Stay<'_>], number: usize) -> Option<&'s Text>
+    ensures { option_copied result ≡ offset_in
+        (slice_get (map (λ stay. stay.now) stays.now) number) }
+{
+    let stay = stays.get(number).copied()?;
+    stay.asked.as_ref()?.offset.as_ref()
+}
+
+/// What the misfit itself says, where the client asked with this offset to go on after this position.
+fn by_misfit(
+    logs: &Logs<'_>,
+    window: BadWindow,
+    off: Option<&Text>,
+    asked: Option<u64>,
+) -> Option<Cause>
+    ensures { result ≡ by_misfit logs.now window (option_copied off.entry) asked }
+{
+    let stay = window.stay;
+    match window.why {
+        Misfit::NoOffset => Some(Cause::NoOffset(stay)),
+        Misfit::Unknown => match off {
+            Some(off) if is_named(logs, off.as_str()) => None,
+            _ => Some(Cause::UnknownOffset(stay)),
+        },
+        Misfit::Behind { .. } => Some(Cause::StaleOffset {
+            stay,
+            after: asked?,
+        }),
+        Misfit::NotBehind { .. } => None,
+    }
 }

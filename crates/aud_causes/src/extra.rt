@@ -5,11 +5,9 @@ ghost use Rattle.aud_cert.specs.Certificate.{turn_at};
 ghost use Rattle.aud_session_facts.specs.NotDue.{reason_of};
 ghost use Rattle.aud_causes.specs.Extra.{before_birth, change_missing, extra_live, first_left, goes_on, late_leave, log_ended_early, reached_at, rooms_named, sent_after_end};
 
-use crate::behind::{first_of, last_of};
 use crate::cause::Cause;
 use crate::changed::{Session, fits_with, fits_with_any};
-use crate::facts::Facts;
-use crate::live::is_outside;
+use crate::facts::{Facts, first_of, is_outside, last_of};
 use aud_cert::Turn;
 use aud_node::Logs;
 use aud_session_facts::{NotDue, Reach, RecordPlace, first_reach, greatest_high, last_change_of};
@@ -142,9 +140,7 @@ pub(crate) fn late_leave(
     }
     let reach = reached_at(logs, turns, position)?;
     let rooms = rooms_named(logs.stream().entry(position));
-    Some(Cause::LateLeave {
-        leave: first_left(logs, pid, turns, reach, rooms)?,
-    })
+    Some(Cause::LateLeave(first_left(logs, pid, turns, reach, rooms)?))
 }
 
 /// Where the session first reached the position.
@@ -168,9 +164,7 @@ pub(crate) fn extra_live(
     }
     match why {
         Some(NotDue::OtherNamespace | NotDue::NoCommonRoom | NotDue::Excepted { .. }) => {
-            Some(Cause::ExtraLive {
-                frame: facts.parted.again,
-            })
+            Some(Cause::ExtraLive(facts.parted.again))
         }
         _ => None,
     }
@@ -194,11 +188,11 @@ pub(crate) fn change_missing(
         Some(NotDue::NoCommonRoom) if is_outside(facts) => {
             let rooms = rooms_named(session.logs.stream().entry(position));
             let fits = fits_with_any(alloc, session, true, position, rooms)?;
-            Ok(fits.then_some(Cause::JoinMissing { frame }))
+            Ok(fits.then_some(Cause::JoinMissing(frame)))
         }
         Some(NotDue::Excepted { room }) if is_outside(facts) => {
             let fits = fits_with(alloc, session, false, position, *room)?;
-            Ok(fits.then_some(Cause::LeaveMissing { frame }))
+            Ok(fits.then_some(Cause::LeaveMissing(frame)))
         }
         _ => Ok(None),
     }

@@ -21,45 +21,28 @@
 //! ```
 #![tactic(auto)]
 
-mod at_break;
-mod bare;
-mod behind;
 mod bodies;
 mod candidates;
 mod cause;
 mod causes;
 mod changed;
-mod cleared;
 mod contents;
 mod delivery;
-mod excerpt;
 mod extra;
 mod facts;
 mod found;
-mod judged;
-mod last_turn;
 mod law;
 mod lines;
 mod list;
-mod live;
-mod logs;
-mod named_entries;
 mod names;
-mod next_change;
-mod no_packet;
 mod orphans;
-mod record_at;
 mod recorded;
 mod refusal;
-mod same_json;
 mod shown;
-mod state;
-mod taken_back;
 mod texts;
 mod turns;
 mod twice;
 mod why;
-mod window;
 mod words;
 
 pub use candidates::{refuted, refuted_of_refusal};

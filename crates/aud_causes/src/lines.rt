@@ -1,4 +1,4 @@
-//! The lines of the records that show a cause.
+//! The records that show a cause, and their lines.
 ghost use Rattle.std.specs.Prelude.{◌≡◌, IfOk, IfSome, flat_map, option_map, option_to_list};
 ghost use Rattle.std.specs.Option.{option_and_then, option_copied};
 ghost use Rattle.aud_rows.specs.ClientPlaces.{AreOf};
@@ -8,11 +8,27 @@ ghost use Rattle.aud_session_facts.specs.FramePlaces.{frame_at};
 ghost use Rattle.aud_causes.specs.Records.{client_row, line_at, lines_at, place_of};
 
 use crate::list::push_some;
-use crate::record_at::RecordAt;
 use aud_client::Recording;
 use aud_rows::{ClientPlaces, Role, Row, Sheet};
-use aud_session_facts::{FramePlace, frame_at};
+use aud_session_facts::{FramePlace, RecordPlace, frame_at};
 use std::alloc::{AllocError, Global};
+
+/// A record of the bundle: of a node, or of the session's client. Stays and frames are those of the session, but for
+/// `First`.
+#[derive(Clone, Copy, Drop)]
+pub enum RecordAt {
+    Node(RecordPlace),
+    /// A frame.
+    Got(usize),
+    /// What was asked in a stay.
+    Ask(usize),
+    /// The reply in a stay.
+    Reply(usize),
+    /// The first record of the stay with this number in the tap.
+    First(usize),
+    /// The tap's first record that is no packet.
+    Bad,
+}
 
 /// The lines of these records, of those that are known.
 pub(crate) fn lines_at(

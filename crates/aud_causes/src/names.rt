@@ -1,17 +1,18 @@
-//! What a fault of a client's tap may come from.
+//! What a fault of a client's tap may come from, and where a tap may have a connection without its packets.
 ghost use Rattle.std.specs.Prelude.{◌≡◌, IfOk, length, map};
 ghost use Rattle.aud_client.specs.Received.{transcript_at};
 ghost use Rattle.aud_client.specs.Replies.{naming_places};
-ghost use Rattle.aud_causes.specs.Names.{client_causes, has_unnamed, is_unanswered, names_causes, namespace_differs, sid_differs, unnamed_from};
+ghost use Rattle.aud_causes.specs.Names.{client_causes, has_unnamed, is_unanswered, names_causes, namespace_differs, sid_differs, unnamed_from, bare_place, is_bare, tap_without_packets};
 
-use crate::bare::tap_without_packets;
 use crate::cause::Cause;
 use crate::list::held;
 use crate::orphans::{is_disconnect, last_of_stay};
+use crate::turns::turn_count;
 use aud_cert::Turn;
 use aud_client::{Recording, Stay};
-use aud_session_facts::opened_in;
-use aud_tap::Tap;
+use aud_node::Logs;
+use aud_session_facts::{opened_in, turn_marks};
+use aud_tap::{ClientRec, Records, Tap};
 use std::alloc::{AllocError, Global};
 
 /// Where not exactly one client's tap names the session. Where none does it costs the stays of the clients' taps, up to
@@ -30,11 +31,11 @@ pub(crate) fn client_causes(
         0 => {
             let bare = tap_without_packets(alloc, recording.logs(), pid)?;
             let client = unnamed_from(alloc, recording, recording.logs().taps())?;
-            let missing = client.map(|client| Cause::ReplyMissing { client });
+            let missing = client.map(|client| Cause::ReplyMissing(client));
             held(alloc, &[Some(Cause::NoClientTap), missing, bare])
         }
         1 => Ok(Vec::new(alloc)),
-        taps => held(alloc, &[Some(Cause::TwoTaps { taps })]),
+        taps => held(alloc, &[Some(Cause::TwoTaps(taps))]),
     }
 }
 
@@ -127,7 +128,7 @@ fn sid_differs(stays: &[&Stay<'_>], sid: &str) -> Option<Cause>
     for (stay, named) in stays.iter().enumerate() {
         match &named.reply {
             Some(reply) if reply.sid.as_str() == sid => {}
-            _ => return Some(Cause::SidDiffers { stay }),
+            _ => return Some(Cause::SidDiffers(stay)),
         }
     }
     None
@@ -139,8 +140,51 @@ fn namespace_differs(stays: &[&Stay<'_>], nsp: &str) -> Option<Cause>
 {
     for (stay, named) in stays.iter().enumerate() {
         if named.nsp != nsp {
-            return Some(Cause::NamespaceDiffers { stay });
+            return Some(Cause::NamespaceDiffers(stay));
         }
     }
     None
+}
+
+/// Where the session has one turn, and the first connection of a client's tap has no packet: the first such tap. It
+/// costs the session's own records, and two records of each tap.
+pub(crate) fn tap_without_packets(
+    alloc: Global,
+    logs: &Logs<'_>,
+    pid: &str,
+) -> Result<Option<Cause>, AllocError>
+    ensures { IfOk result (λ cause. cause ≡ tap_without_packets logs.now pid.now) }
+{
+    let marks = turn_marks(alloc, logs, pid)?;
+    if turn_count(&marks) != 1 {
+        return Ok(None);
+    }
+    let client = bare_place(logs.taps());
+    Ok(client.map(|client| Cause::ClientTapHasNoPackets(client)))
+}
+
+/// The place of the first of these taps whose first connection has no packet.
+fn bare_place(taps: &[Tap]) -> Option<usize>
+    ensures { result ≡ bare_place taps.now }
+{
+    taps.iter().position(|tap| is_bare(tap))
+}
+
+/// Whether the tap is a client's, and its first connection has no packet.
+fn is_bare(tap: &Tap) -> bool
+    ensures { result ≡ is_bare tap.now }
+{
+    match &tap.records {
+        Records::Client(recs) => {
+            let recs = recs.as_slice();
+            match (recs.get(0), recs.get(1)) {
+                (
+                    Some(ClientRec::Conn { .. }),
+                    None | Some(ClientRec::Conn { .. } | ClientRec::Lost),
+                ) => true,
+                _ => false,
+            }
+        }
+        _ => false,
+    }
 }

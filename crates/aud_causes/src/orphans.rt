@@ -33,7 +33,7 @@ pub(crate) fn orphan_at(
     };
     match &stay.reply {
         Some(reply) if reply.pid.is_some() => Ok(Vec::new(alloc)),
-        Some(_) => held(alloc, &[Some(Cause::ReplyWithoutPid { stay: number })]),
+        Some(_) => held(alloc, &[Some(Cause::ReplyWithoutPid(number))]),
         None => unreplied_causes(alloc, recording, client, number, stay),
     }
 }
@@ -95,11 +95,11 @@ fn without_reply(
     match &stay.asked {
         Some(_) => {
             let may_be_cut = matches!(next, None | Some(ClientRec::Lost | ClientRec::Conn { .. }));
-            may_be_cut.then_some(Cause::CutBeforeReply { stay: number })
+            may_be_cut.then_some(Cause::CutBeforeReply(number))
         }
         None => match client_record(recording, client, 0) {
             Some(ClientRec::Conn { c }) if number == 0 && *c == stay.c => {
-                (!asked_first).then_some(Cause::TapBeganLate { stay: number })
+                (!asked_first).then_some(Cause::TapBeganLate(number))
             }
             _ => None,
         },
@@ -120,7 +120,7 @@ fn reply_lost(
         Some(_) => !matches!(next, Some(ClientRec::Lost | ClientRec::Conn { .. })),
         None => connected,
     };
-    lost.then_some(Cause::ReplyMissing { client })
+    lost.then_some(Cause::ReplyMissing(client))
 }
 
 /// The record after the last one of the stay with this number of the client's tap at this place.

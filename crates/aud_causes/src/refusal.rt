@@ -3,14 +3,15 @@ ghost use Rattle.std.specs.Prelude.{◌≡◌, ◌∷◌, [], IfOk, None, Some, 
 ghost use Rattle.aud_session_facts.specs.Recoveries.{stays_at};
 ghost use Rattle.aud_rows.specs.ClientPlaces.{AreOf};
 ghost use Rattle.aud_causes.specs.Found.{cause_seen, shown_causes};
-ghost use Rattle.aud_causes.specs.Refusals.{asked_causes, asked_too_early, first_open, got_of, last_break, never_broken, node_ended, offset_cause, refusal_causes, session_over, stay_causes};
+ghost use Rattle.aud_causes.specs.Refusals.{asked_causes, asked_too_early, first_open, got_of, last_break, never_broken, node_ended, offset_cause, refusal_causes, session_over, stay_causes, count_asks, is_taken_back, marks_before};
+ghost use Rattle.std.specs.List.{list_any};
+ghost use Rattle.aud_client.specs.Received.{stay_names_pid};
 
 use crate::cause::Cause;
 use crate::found::{CauseFound, shown_causes};
-use crate::last_turn::{is_broken, is_ended, last_begin, last_turn};
 use crate::list::held;
-use crate::named_entries::is_named;
-use crate::taken_back::marks_before;
+use crate::recorded::is_named;
+use crate::turns::{is_broken, is_ended, last_begin, last_turn};
 use aud_client::{Asked, Recording, Stay};
 use aud_node::Logs;
 use aud_rows::{ClientPlaces, Sheet};
@@ -123,25 +124,21 @@ fn offset_cause(logs: &Logs<'_>, asked: &Asked) -> Option<Cause>
     ensures { result ≡ offset_cause logs.now asked.now.offset }
 {
     let Some(off) = &asked.offset else {
-        return Some(Cause::NoOffset { stay: 0 });
+        return Some(Cause::NoOffset(0));
     };
     let off = off.as_str();
     if logs.stream().position(off).is_some() || is_named(logs, off) {
         return None;
     }
-    Some(Cause::UnknownOffset { stay: 0 })
+    Some(Cause::UnknownOffset(0))
 }
 
 /// Where a node recorded the session's end.
 fn session_over(marks: &[TurnMark]) -> Option<Cause>
     ensures { result ≡ session_over marks.now }
 {
-    for mark in marks {
-        if let Mark::Gone = mark.mark {
-            return Some(Cause::SessionOver { gone: mark.place });
-        }
-    }
-    None
+    let mark = marks.iter().find(|mark| matches!(mark.mark, Mark::Gone))?;
+    Some(Cause::SessionOver(mark.place))
 }
 
 /// Where the log of the node on which the session's last turn began ends in that turn.
@@ -157,7 +154,7 @@ fn node_ended(logs: &Logs<'_>, marks: &[TurnMark]) -> Option<Cause>
         node: begin.node,
         number: log.recs().len().saturating_sub(1),
     };
-    Some(Cause::NodeEndedInTurn { last })
+    Some(Cause::NodeEndedInTurn(last))
 }
 
 /// Where no node recorded a break of the session's last turn, nor its end.
@@ -167,21 +164,15 @@ fn never_broken(marks: &[TurnMark]) -> Option<Cause>
     if is_broken(marks, last_turn(marks)) || session_over(marks).is_some() {
         return None;
     }
-    Some(Cause::NeverBroken {
-        begin: last_begin(marks)?,
-    })
+    Some(Cause::NeverBroken(last_begin(marks)?))
 }
 
 /// The record that opened the session.
 fn first_open(marks: &[TurnMark]) -> Option<RecordPlace>
     ensures { result ≡ first_open marks.now }
 {
-    for mark in marks {
-        if let Mark::Open = mark.mark {
-            return Some(mark.place);
-        }
-    }
-    None
+    let mark = marks.iter().find(|mark| matches!(mark.mark, Mark::Open))?;
+    Some(mark.place)
 }
 
 /// The break of the last turn that has one.
@@ -218,4 +209,54 @@ fn asked_too_early(logs: &Logs<'_>, marks: &[TurnMark], opening: &[TurnMark]) ->
         high,
         low,
     })
+}
+
+/// These records, which begin and end the session's turns; none where it was taken back in the stay with this number of
+/// its client's tap, or later: then its last turn tells nothing of why a recovery was refused there.
+pub(crate) fn marks_before<'m>(
+    marks: &'m [TurnMark],
+    stays: &[Stay<'_>],
+    number: usize,
+    pid: &str,
+) -> &'m [TurnMark]
+    ensures { result.now ≡ marks_before marks.now stays.now number pid.now }
+{
+    if is_taken_back(marks, stays, number, pid) {
+        return &[];
+    }
+    marks
+}
+
+/// Whether it was: a recovery begins one turn, and the session has more turns after its first than recoveries were asked
+/// for before that stay; or the client got it back.
+fn is_taken_back(marks: &[TurnMark], stays: &[Stay<'_>], number: usize, pid: &str) -> bool
+    ensures { result ≡ is_taken_back marks.now stays.now number pid.now }
+{
+    let (before, since) = stays.split_at(number.min(stays.len()));
+    if count_asks(before, pid) < last_turn(marks) {
+        return true;
+    }
+    is_named_by(since, pid)
+}
+
+/// How often the client asks for the session in these stays.
+fn count_asks(stays: &[Stay<'_>], pid: &str) -> usize
+    ensures { result ≡ count_asks pid.now stays.now }
+{
+    let mut count = 0;
+    for stay in stays {
+        if let Some(asked) = &stay.asked {
+            if asked.pid.as_str() == pid {
+                count += 1;
+            }
+        }
+    }
+    count
+}
+
+/// Whether the reply of one of these names the session.
+fn is_named_by(stays: &[Stay<'_>], pid: &str) -> bool
+    ensures { result ≡ list_any (stay_names_pid pid.now) stays.now }
+{
+    stays.iter().any(|stay| stay.names(pid))
 }

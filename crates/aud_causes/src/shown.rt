@@ -3,10 +3,9 @@ ghost use Rattle.std.specs.Prelude.{◌≡◌, flat_map, option_to_list};
 ghost use Rattle.aud_causes.specs.Table.{row_of};
 
 use crate::cause::Cause;
-use crate::no_packet::no_packet_figures;
-use crate::record_at::RecordAt::{self, Ask, Bad, First, Got, Node, Reply};
+use crate::lines::RecordAt::{self, Ask, Bad, First, Got, Node, Reply};
 use crate::why::Figure::{self, Name, Number};
-use crate::why::part_figures;
+use crate::why::{no_packet_figures, part_figures};
 
 /// What shows a cause: its records, in the order in which they are told, and the figures for its words.
 #[derive(Drop)]
@@ -52,7 +51,7 @@ pub(crate) fn shown_of(cause: Cause) -> Shown
             records: [Some(Ask(stay)), None, None, None],
             figures: [Some(Number(after)), None, None],
         },
-        Cause::UnknownOffset { stay } | Cause::NoOffset { stay } => Shown {
+        Cause::UnknownOffset(stay) | Cause::NoOffset(stay) => Shown {
             records: [Some(Ask(stay)), None, None, None],
             figures: [None; 3],
         },
@@ -61,12 +60,12 @@ pub(crate) fn shown_of(cause: Cause) -> Shown
                 records: [Some(Ask(stay)), Some(Reply(stay)), None, None],
                 figures: [Some(Number(after)), Some(Number(low)), None],
             },
-        Cause::LostLive { frame }
-        | Cause::AttachmentsReordered { frame }
-        | Cause::AnotherEvent { frame }
-        | Cause::ExtraLive { frame }
-        | Cause::JoinMissing { frame }
-        | Cause::LeaveMissing { frame } => Shown {
+        Cause::LostLive(frame)
+        | Cause::AttachmentsReordered(frame)
+        | Cause::AnotherEvent(frame)
+        | Cause::ExtraLive(frame)
+        | Cause::JoinMissing(frame)
+        | Cause::LeaveMissing(frame) => Shown {
             records: [Some(Got(frame)), None, None, None],
             figures: [None; 3],
         },
@@ -89,7 +88,7 @@ pub(crate) fn shown_of(cause: Cause) -> Shown
             records: [Some(Node(at)), None, None, None],
             figures: [Some(Name(at.node)), Some(Number(cursor)), None],
         },
-        Cause::LateLeave { leave: at } | Cause::NeverBroken { begin: at } => Shown {
+        Cause::LateLeave(at) | Cause::NeverBroken(at) => Shown {
             records: [Some(Node(at)), None, None, None],
             figures: [None; 3],
         },
@@ -142,12 +141,12 @@ pub(crate) fn shown_of(cause: Cause) -> Shown
             records: [Some(Node(first)), Some(Node(again)), None, None],
             figures: [Some(Name(first.node)), Some(Name(again.node)), None],
         },
-        Cause::OpenNotRecorded { first: Some(at) }
-        | Cause::NoStart { first: at }
-        | Cause::RestartedInOldLog { start: at }
-        | Cause::NotInStream { taken: at }
-        | Cause::SessionOver { gone: at }
-        | Cause::NodeEndedInTurn { last: at } => Shown {
+        Cause::OpenNotRecorded(Some(at))
+        | Cause::NoStart(at)
+        | Cause::RestartedInOldLog(at)
+        | Cause::NotInStream(at)
+        | Cause::SessionOver(at)
+        | Cause::NodeEndedInTurn(at) => Shown {
             records: [Some(Node(at)), None, None, None],
             figures: [Some(Name(at.node)), None, None],
         },
@@ -168,32 +167,31 @@ pub(crate) fn shown_of(cause: Cause) -> Shown
                 Some(Number(cursor)),
             ],
         },
-        Cause::NodeNotTapped { turn: number } | Cause::TwoTaps { taps: number } => Shown {
+        Cause::NodeNotTapped(number) | Cause::TwoTaps(number) => Shown {
             records: [None; 4],
             figures: [Some(Number(number as u64)), None, None],
         },
-        Cause::OpenNotRecorded { first: None } | Cause::NoClientTap => Shown {
+        Cause::OpenNotRecorded(None) | Cause::NoClientTap => Shown {
             records: [None; 4],
             figures: [None; 3],
         },
-        Cause::ReplyMissing { client } | Cause::ClientTapHasNoPackets { client } => Shown {
+        Cause::ReplyMissing(client) | Cause::ClientTapHasNoPackets(client) => Shown {
             records: [None; 4],
             figures: [Some(Name(client)), None, None],
         },
-        Cause::SidDiffers { stay } | Cause::NamespaceDiffers { stay } => Shown {
+        Cause::SidDiffers(stay) | Cause::NamespaceDiffers(stay) => Shown {
             records: [Some(Reply(stay)), None, None, None],
             figures: [None; 3],
         },
-        Cause::NotAPacket { why } => Shown {
+        Cause::NotAPacket(why) => Shown {
             records: [Some(Bad), None, None, None],
             figures: no_packet_figures(why),
         },
-        Cause::TapBeganLate { stay }
-        | Cause::CutBeforeReply { stay }
-        | Cause::ReplyWithoutPid { stay } => Shown {
-            records: [Some(First(stay)), None, None, None],
-            figures: [None; 3],
-        },
+        Cause::TapBeganLate(stay) | Cause::CutBeforeReply(stay) | Cause::ReplyWithoutPid(stay) =>
+            Shown {
+                records: [Some(First(stay)), None, None, None],
+                figures: [None; 3],
+            },
         Cause::OutAfterAnswer { before, stay }
         | Cause::SecondConnect { before, stay }
         | Cause::AfterDisconnect { before, stay } => Shown {

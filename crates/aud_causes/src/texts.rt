@@ -1,10 +1,9 @@
-//! Both texts of an event that isn't its entry, in the sentence of its cause.
+//! Both texts of an event that isn't its entry, around the byte at which they part, in the sentence of its cause.
 ghost use Rattle.std.specs.Prelude.{◌≡◌, ◌++◌, OnOk, string_bytes};
 ghost use Rattle.std.specs.Option.{option_and_then, option_copied};
-ghost use Rattle.aud_causes.specs.Texts.{apart_in, frame_of, texts_told};
+ghost use Rattle.aud_causes.specs.Texts.{apart_in, frame_of, texts_told, around, excerpt, shown_from};
 
 use crate::cause::Cause;
-use crate::excerpt::push_excerpt;
 use crate::lines::frame_in;
 use aud_check::Part;
 use aud_client::{Frame, Recording};
@@ -77,4 +76,43 @@ pub(crate) fn frame_of<'r, 'a>(
     let place = frame_in(recording, client, numbers, frame)?;
     let stays = &recording.client(client)?.transcript().stays;
     stays.get(place.stay)?.frames.get(place.frame)
+}
+
+/// How many bytes are shown in front of the byte, and from it on.
+const NEAR: usize = 24;
+
+/// Adds the characters of the text that begin in the 24 bytes in front of this byte and in the 24 bytes from it on, and
+/// two points for what is left out at either end. It costs the text up to there.
+pub(crate) fn push_excerpt(out: &mut String, text: &str, at: usize) -> Result<(), AllocError>
+    ensures { OnOk result (string_bytes out.new ≡ string_bytes out.old ++ excerpt text.now at) }
+{
+    if at.saturating_sub(NEAR) > 0 {
+        out.push_str("..")?;
+    }
+    push_around(out, text, at)
+}
+
+/// Adds the characters that begin near this byte, and two points for those behind.
+fn push_around(out: &mut String, text: &str, at: usize) -> Result<(), AllocError>
+    ensures { OnOk result (string_bytes out.new ≡ string_bytes out.old ++ around at 0 text.now) }
+{
+    for (place, c) in text.char_indices() {
+        if place.saturating_sub(at) >= NEAR {
+            out.push_str("..")?;
+            return Ok(());
+        }
+        push_from(out, at.saturating_sub(NEAR), place, c)?;
+    }
+    Ok(())
+}
+
+/// Adds the character that begins at this byte, if that is not in front of the other.
+fn push_from(out: &mut String, from: usize, place: usize, c: char) -> Result<(), AllocError>
+    ensures { OnOk result (string_bytes out.new
+        ≡ string_bytes out.old ++ shown_from from place c) }
+{
+    if place >= from {
+        out.push(c)?;
+    }
+    Ok(())
 }

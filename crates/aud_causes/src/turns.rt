@@ -3,14 +3,12 @@ ghost use Rattle.std.specs.Prelude.{◌≡◌, ◌++◌, ◌<◌, IfOk, OnOk, le
 ghost use Rattle.std.specs.Option.{option_copied};
 ghost use Rattle.aud_causes.specs.Chain.{causes_of_marks, causes_of_turns, stays_of_client};
 ghost use Rattle.aud_causes.specs.Private.Noting.{break_in, with_begin};
-ghost use Rattle.aud_causes.specs.Turns.{after_begin, begins_of, begun_turn, breaks_of, broken_turn, ended_by, ends_of, is_after_begin, is_untapped, missing_back, missing_break, missing_breaks, not_tapped, turn_count, unbegun};
+ghost use Rattle.aud_causes.specs.Turns.{after_begin, begins_of, begun_turn, breaks_of, broken_turn, ended_by, ends_of, is_after_begin, is_untapped, missing_back, missing_break, missing_breaks, not_tapped, turn_count, unbegun, is_broken, is_end, is_turn, is_ended, last_begin, last_turn};
 
 use crate::cause::Cause;
-use crate::cleared::push_cleared;
-use crate::last_turn::{is_broken, is_end, is_turn};
 use crate::list::push_some;
-use crate::logs::recoveries;
-use crate::twice::{is_as_often, opened_twice, push_twice};
+use crate::recorded::recoveries;
+use crate::twice::{is_as_often, opened_twice, push_cleared, push_twice};
 use aud_client::{Recording, Stay};
 use aud_node::Logs;
 use aud_session_facts::{Mark, RecordPlace, TurnMark, turn_marks};
@@ -190,7 +188,7 @@ fn not_tapped(begins: &[Option<RecordPlace>], broken: &[bool]) -> Option<Cause>
 {
     for (turn, begin) in begins.iter().enumerate() {
         if is_untapped(*begin, broken.get(turn)) {
-            return Some(Cause::NodeNotTapped { turn });
+            return Some(Cause::NodeNotTapped(turn));
         }
     }
     None
@@ -290,5 +288,63 @@ fn missing_break(turns: &Turns, came: &[usize], turn: usize) -> Option<Cause>
             })
         }
         _ => None,
+    }
+}
+
+/// The number of the last turn that one of these begins; 0 where none begins one.
+pub(crate) fn last_turn(marks: &[TurnMark]) -> usize
+    ensures { result ≡ last_turn marks.now }
+{
+    turn_count(marks).saturating_sub(1)
+}
+
+/// The first record that begins it.
+pub(crate) fn last_begin(marks: &[TurnMark]) -> Option<RecordPlace>
+    ensures { result ≡ last_begin marks.now }
+{
+    let turn = last_turn(marks);
+    let mark = marks
+        .iter()
+        .find(|mark| is_turn(turn, begun_turn(mark.mark)))?;
+    Some(mark.place)
+}
+
+/// Whether a record breaks the turn.
+pub(crate) fn is_broken(marks: &[TurnMark], turn: usize) -> bool
+    ensures { result ≡ is_broken marks.now turn }
+{
+    marks
+        .iter()
+        .any(|mark| is_turn(turn, broken_turn(mark.mark)))
+}
+
+/// Whether it is this turn.
+pub(crate) fn is_turn(turn: usize, other: Option<u16>) -> bool
+    ensures { result ≡ is_turn turn other }
+{
+    match other {
+        Some(other) => turn == other as usize,
+        None => false,
+    }
+}
+
+/// Whether a record after this one, in the same log, breaks the session or ends it.
+pub(crate) fn is_ended(marks: &[TurnMark], begin: RecordPlace) -> bool
+    ensures { result ≡ is_ended marks.now begin }
+{
+    marks.iter().any(|mark| {
+        mark.place.node == begin.node && begin.number < mark.place.number && is_end(mark.mark)
+    })
+}
+
+/// Whether such a record ends a turn.
+pub(crate) fn is_end(mark: Mark) -> bool
+    ensures { result ≡ is_end mark }
+{
+    match mark {
+        Mark::Break { .. } => true,
+        Mark::Gone => true,
+        Mark::Open => false,
+        Mark::Back { .. } => false,
     }
 }

@@ -3,8 +3,7 @@ ghost use Rattle.std.specs.Prelude.{◌≡◌};
 ghost use Rattle.aud_causes.specs.Table.{row_of};
 
 use crate::cause::Cause;
-use crate::no_packet::{advice, no_packet_words};
-use crate::why::part_words;
+use crate::why::{advice, no_packet_words, part_words};
 
 /// What is said of a cause in words.
 #[derive(Drop)]
@@ -66,12 +65,12 @@ pub(crate) fn words_of(cause: Cause) -> Words
             why: "The client asked to go on after entry #, of which its tap has no frame: it may have had it.",
             todo: "see whether the client's tap lost records; else look at where the client has the offset from.",
         },
-        Cause::UnknownOffset { .. } => Words {
+        Cause::UnknownOffset(_) => Words {
             id: "unknown-offset",
             why: "The client asked to go on after an offset that no entry of the stream has.",
             todo: "take as offset only what a server that recovers put at the end of an event.",
         },
-        Cause::NoOffset { .. } => Words {
+        Cause::NoOffset(_) => Words {
             id: "no-offset",
             why: "The client asked for the session and gave no offset.",
             todo: "store the offset of each event, and ask with the last one.",
@@ -86,7 +85,7 @@ pub(crate) fn words_of(cause: Cause) -> Words
             why: "The entry is one of those to be sent again, after # up to #, and no frame of it came.",
             todo: "look at how the node reads the stream for the replay, and at what stands between it and the client.",
         },
-        Cause::LostLive { .. } => Words {
+        Cause::LostLive(_) => Words {
             id: "lost-live",
             why: "The node took the entry while the client was connected, and no frame of it came.",
             todo: "look at what stands between the node and the client, and at what the node sent.",
@@ -111,12 +110,12 @@ pub(crate) fn words_of(cause: Cause) -> Words
             why: "The event's text parts from its entry's at byte #, and is the same JSON.",
             todo: "let the stream's tap write each event as the nodes do, byte for byte.",
         },
-        Cause::AttachmentsReordered { .. } => Words {
+        Cause::AttachmentsReordered(_) => Words {
             id: "attachments-reordered",
             why: "The event has its entry's attachments, in another order.",
             todo: "look at what stands between the node and the client: it has to keep the order of messages.",
         },
-        Cause::AnotherEvent { .. } => Words {
+        Cause::AnotherEvent(_) => Words {
             id: "another-event",
             why: "The event has another name, namespace or number of arguments than its entry.",
             todo: "let no event but those of the stream end in a text that is an offset.",
@@ -136,7 +135,7 @@ pub(crate) fn words_of(cause: Cause) -> Words
             why: "By its log # had ended the turn in which the event came, with its cursor at #.",
             todo: "write `break` once nothing more is sent to the client; see whether the node sent on.",
         },
-        Cause::LateLeave { .. } => Words {
+        Cause::LateLeave(_) => Words {
             id: "late-leave",
             why: "The session had left a room of the entry before it reached the entry.",
             todo: "send an entry by the rooms that the session holds when the node takes it.",
@@ -146,17 +145,17 @@ pub(crate) fn words_of(cause: Cause) -> Words
             why: "By its log # had taken the entry when it opened the session, with its cursor at #.",
             todo: "send a session nothing that the node took before its `open`; see whether that, and `start`, are written in time.",
         },
-        Cause::ExtraLive { .. } => Words {
+        Cause::ExtraLive(_) => Words {
             id: "extra-live",
             why: "The node sent the session an entry that was not addressed to it.",
             todo: "look at how the node picks the sessions of a room.",
         },
-        Cause::JoinMissing { .. } => Words {
+        Cause::JoinMissing(_) => Words {
             id: "join-missing",
             why: "What came would fit if the session had joined a room of the entry before: a `join` may be missing.",
             todo: "write a `join` at once, unbuffered; look at whether the session was in that room.",
         },
-        Cause::LeaveMissing { .. } => Words {
+        Cause::LeaveMissing(_) => Words {
             id: "leave-missing",
             why: "What came would fit if the session had left a room before: a `leave` may be missing.",
             todo: "write a `leave` at once, unbuffered; look at whether the session was in that room.",
@@ -201,27 +200,27 @@ pub(crate) fn words_of(cause: Cause) -> Words
             why: "The log of # has an `open` of the session, and that of # has another.",
             todo: "give each session a pid of its own; see whether two taps have one node's log.",
         },
-        Cause::OpenNotRecorded { first: Some(_) } => Words {
+        Cause::OpenNotRecorded(Some(_)) => Words {
             id: "open-not-recorded",
             why: "The log of # has records of the session, and no log has its `open`.",
             todo: "write an `open` when the session opens, unbuffered; look at how logs are rotated.",
         },
-        Cause::OpenNotRecorded { first: None } => Words {
+        Cause::OpenNotRecorded(None) => Words {
             id: "open-not-recorded",
             why: "No log has a record of the session, though a node is tapped: its `open` may be missing.",
             todo: "write an `open` when the session opens, unbuffered; look at how logs are rotated.",
         },
-        Cause::NodeNotTapped { .. } => Words {
+        Cause::NodeNotTapped(_) => Words {
             id: "node-not-tapped",
             why: "No node's log has the begin of turn #.",
             todo: "tap each node, from its start.",
         },
-        Cause::NoStart { .. } => Words {
+        Cause::NoStart(_) => Words {
             id: "no-start",
             why: "The log of # does not begin with a `start`.",
             todo: "begin a node's log with a `start`, when the node starts.",
         },
-        Cause::RestartedInOldLog { .. } => Words {
+        Cause::RestartedInOldLog(_) => Words {
             id: "restarted-in-old-log",
             why: "# started again in its old log.",
             todo: "begin a new log, of another name, each time that a node starts.",
@@ -236,12 +235,12 @@ pub(crate) fn words_of(cause: Cause) -> Words
             why: "# took entry # again, with its cursor at #.",
             todo: "let a node take each entry once, in the order of the stream.",
         },
-        Cause::NotInStream { .. } => Words {
+        Cause::NotInStream(_) => Words {
             id: "not-in-stream",
             why: "# names an entry that the stream's tap doesn't have.",
             todo: "tap the stream before the nodes, and stop its tap after them.",
         },
-        Cause::TwoTaps { .. } => Words {
+        Cause::TwoTaps(_) => Words {
             id: "two-taps",
             why: "# taps of clients name the session.",
             todo: "keep one name of a tap for a client's whole life.",
@@ -251,42 +250,42 @@ pub(crate) fn words_of(cause: Cause) -> Words
             why: "No tap of a client names the session.",
             todo: "tap the client before its first connection.",
         },
-        Cause::ReplyMissing { .. } => Words {
+        Cause::ReplyMissing(_) => Words {
             id: "reply-missing",
             why: "The tap of # has a CONNECT or events, and no reply that names their session.",
             todo: "begin a client's tap before its first packet, and record each answer to a CONNECT.",
         },
-        Cause::ClientTapHasNoPackets { .. } => Words {
+        Cause::ClientTapHasNoPackets(_) => Words {
             id: "client-tap-has-no-packets",
             why: "The first connection in the tap of # has no packet: it may be the session's.",
             todo: "begin to record a connection's packets before its first one; see why it ended.",
         },
-        Cause::SidDiffers { .. } => Words {
+        Cause::SidDiffers(_) => Words {
             id: "sid-differs",
             why: "The reply has another sid than the session was opened with.",
             todo: "write the session's sid into the node's log, not that of the transport.",
         },
-        Cause::NamespaceDiffers { .. } => Words {
+        Cause::NamespaceDiffers(_) => Words {
             id: "namespace-differs",
             why: "The reply is of another namespace than the session was opened in.",
             todo: "write the namespace in which the session was opened.",
         },
-        Cause::NotAPacket { why } => Words {
+        Cause::NotAPacket(why) => Words {
             id: "not-a-packet",
             why: no_packet_words(why),
             todo: advice(why),
         },
-        Cause::TapBeganLate { .. } => Words {
+        Cause::TapBeganLate(_) => Words {
             id: "tap-began-late",
             why: "Events came in a stay without a reply, and no session was asked for in it.",
             todo: "begin a client's tap before its first packet.",
         },
-        Cause::CutBeforeReply { .. } => Words {
+        Cause::CutBeforeReply(_) => Words {
             id: "cut-before-reply",
             why: "The client asked for a session, and events came, but no reply did.",
             todo: "nothing, where the client came back; else look at why the connection was cut.",
         },
-        Cause::ReplyWithoutPid { .. } => Words {
+        Cause::ReplyWithoutPid(_) => Words {
             id: "reply-without-pid",
             why: "The reply names no session: the server recovers none there.",
             todo: "let the server recover sessions in this namespace.",
@@ -306,17 +305,17 @@ pub(crate) fn words_of(cause: Cause) -> Words
             why: "Events came after a DISCONNECT from the namespace on this connection.",
             todo: "record what a client takes in: nothing of a namespace after its DISCONNECT.",
         },
-        Cause::SessionOver { .. } => Words {
+        Cause::SessionOver(_) => Words {
             id: "session-over",
             why: "The log of # ends the session.",
             todo: "keep a session that a client may come back to, for as long as it may.",
         },
-        Cause::NodeEndedInTurn { .. } => Words {
+        Cause::NodeEndedInTurn(_) => Words {
             id: "node-ended-in-turn",
             why: "The log of # ends in the session's last turn.",
             todo: "see whether the node was killed: then it stored no session, and waiting can't help.",
         },
-        Cause::NeverBroken { .. } => Words {
+        Cause::NeverBroken(_) => Words {
             id: "never-broken",
             why: "No log has a break of the session's last turn.",
             todo: "let the client wait longer before it comes back, or the server notice a break sooner.",

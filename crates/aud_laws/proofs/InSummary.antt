@@ -4,7 +4,7 @@ use Rattle.std.specs.List.{list_any}
 use Rattle.std.specs.Str.{bytes_eq}
 use Rattle.aud_causes.specs.declared.cause.Cause.{Cause}
 use Rattle.aud_causes.specs.declared.cause.Cause.TheVariants.{BodyCameTwice, MissingBreak, NodeBehindBreak, OpenNotRecorded}
-use Rattle.aud_causes.specs.Words.{id_text}
+use Rattle.aud_causes.specs.Table.{id_text}
 use Rattle.aud_explain_app.specs.Summary.Causes.{cause_names}
 
 -- of each alike

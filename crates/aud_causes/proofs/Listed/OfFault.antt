@@ -29,11 +29,8 @@ use Rattle.aud_causes.specs.Found.{CauseSeen, cause_seen, shown_among}
 use Rattle.aud_causes.specs.Judged.{causes_found, judged_causes}
 use Rattle.aud_causes.specs.Recorded.{AreRecordedCauses}
 use Rattle.aud_causes.specs.Texts.{frame_of}
-use Rattle.aud_causes.proofs.Listed.Each.{is_listed}
-use Rattle.aud_causes.proofs.Listed.OfRecording.{chain_listed, client_listed, no_log_listed, order_listed}
-use Rattle.aud_causes.proofs.Listed.OfClient.{names_listed, orphan_listed}
-use Rattle.aud_causes.proofs.Listed.OfContent.{content_listed, window_listed}
-use Rattle.aud_causes.proofs.Listed.OfDifference.{difference_listed}
+use Rattle.aud_causes.proofs.Listed.OfRecording.{chain_listed, client_listed, is_listed, names_listed, no_log_listed, order_listed, orphan_listed}
+use Rattle.aud_causes.proofs.Listed.OfDifference.{content_listed, difference_listed, window_listed}
 
 -- ---- of a session that has a certificate
 

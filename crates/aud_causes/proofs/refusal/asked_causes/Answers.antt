@@ -3,8 +3,7 @@ use Rattle.std.proofs.lemmas.Result.{IfOk-weaker}
 use Rattle.aud_client.specs.StaySeen.{AskedSeen}
 use Rattle.aud_session_facts.specs.Marks.{turn_marks}
 use Rattle.aud_causes.specs.Delivery.{held}
-use Rattle.aud_causes.specs.Refusals.{asked_causes, asked_too_early, never_broken, node_ended, offset_cause, session_over}
-use Rattle.aud_causes.specs.TakenBack.{marks_before}
+use Rattle.aud_causes.specs.Refusals.{asked_causes, asked_too_early, never_broken, node_ended, offset_cause, session_over, marks_before}
 use Rattle.aud_causes.proofs.refusal.asked_causes.Goals as goal
 
 pub returns : goal.returns
