@@ -131,6 +131,12 @@ fn unread_at(
     }
 }
 
+/// A name as the text of an explanation has it: between quotes where it isn't plain, and printed so that all of it is seen.
+fn shown_name(alloc: Global, name: &str) -> Result<String, AllocError> {
+    let name = named(alloc, name)?;
+    printed(alloc, name.as_str())
+}
+
 /// Nothing names a session of the arguments.
 fn no_session(
     alloc: Global,
@@ -138,7 +144,7 @@ fn no_session(
     number: usize,
 ) -> Result<Failure, AllocError> {
     let pid = match options.pids.as_slice().get(number) {
-        Some(pid) => named(alloc, pid.as_str())?,
+        Some(pid) => shown_name(alloc, pid.as_str())?,
         None => String::new(alloc),
     };
     let pid = pid.as_str();
@@ -155,7 +161,7 @@ fn no_record(
     let Some(record) = options.records.as_slice().get(number) else {
         return Ok(Failure::from(RunFault::Memory));
     };
-    let tap = named(alloc, record.tap.as_str())?;
+    let tap = shown_name(alloc, record.tap.as_str())?;
     let (number, tap) = (record.number, tap.as_str());
     let line = format!(in alloc; "error: the bundle has no record {number} of a tap {tap}")?;
     Ok(Failure::Line(line, 4))
@@ -164,7 +170,7 @@ fn no_record(
 /// Says which sessions of the arguments `--only` leaves out.
 fn ended(rt: &impl Eprint, alloc: Global, ending: &Ending<'_>) -> Result<ExitCode, Failure> {
     for pid in &ending.left_out {
-        let pid = named(alloc, pid)?;
+        let pid = shown_name(alloc, pid)?;
         let pid = pid.as_str();
         let _ = eprintln!(rt; "sioaudit: --only leaves out the session {pid}");
     }
